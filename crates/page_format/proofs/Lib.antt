@@ -1,0 +1,3 @@
+pub mod Endian
+pub mod Varints
+pub mod Packing

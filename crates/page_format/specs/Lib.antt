@@ -1,0 +1,5 @@
+pub mod Faults
+pub mod Limits
+pub mod Bits
+pub mod Writes
+pub mod Laws

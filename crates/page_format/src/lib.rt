@@ -1,0 +1,36 @@
+// What every layer shares: faults, limits, the encodings' numbers, and the bit-level fields of a page.
+mod bits;
+mod encoding;
+mod fault;
+mod field;
+mod fields;
+mod limits;
+mod numbers;
+
+pub use bits::ceil;
+pub use bits::num_required_bits;
+pub use bits::trailing_bits;
+pub use bits::unzigzag;
+pub use bits::zigzag;
+pub use encoding::Encoding;
+pub use fault::Fault;
+pub use fault::Layer;
+pub use fault::Rejection;
+pub use field::BadField;
+pub use field::Field;
+pub use fields::pack;
+pub use fields::read_le;
+pub use fields::read_packed;
+pub use fields::read_varint;
+pub use fields::write_le;
+pub use fields::write_varint;
+pub use limits::MAX_ARRAY_VALUES;
+pub use limits::MAX_DATA_BYTES;
+pub use limits::MAX_ENTRIES;
+pub use limits::MAX_FIXED_WIDTH;
+pub use limits::MAX_KEY_WIDTH;
+pub use limits::MAX_PAGE_VALUES;
+pub use limits::MAX_RUN_GROUPS;
+pub use limits::MAX_VALUE_BYTES;
+pub use limits::TABLE_SLOTS;
+pub use limits::all_limits;
