@@ -1,0 +1,15 @@
+pub mod Cutting
+pub mod Ruling
+pub mod Steps
+pub mod Sizes
+pub mod Writes
+pub mod Holding
+pub mod Carried
+pub mod Finishing
+pub mod RoundTrip
+pub mod Fields
+pub mod Walking
+pub mod Advancing
+pub mod Stepping
+pub mod Opens
+pub mod Noting

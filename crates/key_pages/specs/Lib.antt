@@ -1,0 +1,12 @@
+pub mod Meaning
+pub mod Runs
+pub mod Cuts
+pub mod Claims
+pub mod Back
+pub mod Machine
+pub mod Held
+pub mod Reading
+pub mod Views
+pub mod Coming
+pub mod Opening
+pub mod Listing

@@ -1,0 +1,6 @@
+mod Splits
+mod Numerals
+mod Hexes
+mod Parsed
+mod Spaces
+mod Faults

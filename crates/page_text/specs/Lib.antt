@@ -1,0 +1,5 @@
+pub mod Lines
+pub mod Pages
+pub mod Requests
+pub mod Complaints
+pub mod Written
