@@ -9,7 +9,7 @@ use lib.ListN.{length, take, drop, length-drop}
 use Rattle.std.proofs.shelf.Lists.{length-take-le, take-rest}
 use Rattle.std.proofs.shelf.Tests.{and-parts, and-from, eqb-true, ltb-true, eq-eqb, lt-ltb}
 use Rattle.page_format.specs.Bits.{bytes-for}
-use Rattle.key_pages.specs.Meaning.{Read-run, repeats, packs, run-length, Run-at, a-repeat, a-packed, Wrong-run, no-header, empty-run, too-many, cut-value, cut-groups}
+use Rattle.key_pages.specs.Meaning.{Read-run, repeats, packs, run-length, Run-at, a-repeat, a-packed, Wrong-run, no-header, empty-run, too-many, cut-value, too-long, cut-groups}
 use Rattle.key_pages.specs.Views.{whole}
 use Rattle.key_pages.specs.Reading.{Step, a-run, no-run, read-run}
 use Rattle.key_pages.proofs.Fields.{varint-sized}
@@ -39,7 +39,7 @@ part-long n k bs h = length-take-le k (drop n bs) (omega (arith, length-drop n b
 
 at-whole : (w place left : ℕ) (bs : List ℕ) (run : Read-run) (size : ℕ) → Run-at w place left bs run size → Whole w run
 at-whole w place left bs run size (a-repeat count n h pos few fits) = (part-long n (bytes-for w) bs fits, pos)
-at-whole w place left bs run size (a-packed groups n h pos fits) =
+at-whole w place left bs run size (a-packed groups n h pos few fits) =
     (part-long n (groups * w) bs fits, pos, omega (arith, varint-sized 32 bs (record { value = 2 * groups + 1; len = n }) h .below))
 
 pub run-whole : (w place left : ℕ) (bs : List ℕ) (run : Read-run) (size : ℕ) → read-run w place left bs ≡ a-run run size → whole w run ≡ true
@@ -53,7 +53,8 @@ wrong-within w left bs k (no-header b e) = omega arith
 wrong-within w left bs k (empty-run h n e lt) = omega arith
 wrong-within w left bs k (too-many count n e lt) = omega arith
 wrong-within w left bs k (cut-value count n e pos few lt) = varint-sized 32 bs (record { value = 2 * count; len = n }) e .inside
-wrong-within w left bs k (cut-groups groups n e pos lt) = varint-sized 32 bs (record { value = 2 * groups + 1; len = n }) e .inside
+wrong-within w left bs k (too-long groups n e lt) = omega arith
+wrong-within w left bs k (cut-groups groups n e pos few lt) = varint-sized 32 bs (record { value = 2 * groups + 1; len = n }) e .inside
 
 pub wrong-inside : (w place left : ℕ) (bs : List ℕ) (k : ℕ) → read-run w place left bs ≡ no-run k → k ≤ length bs
 wrong-inside w place left bs k e = wrong-within w left bs k (run-missed w place left bs k e)

@@ -176,7 +176,7 @@ packed-reads w place gs ks rest bs eight pos few small some left front next =
   let bt : take (length gs * w) (joined (packed-bytes w) gs ++ bs) ≡ packed-bytes w (flat gs) = take-at (joined (packed-bytes w) gs) bs _ lb ∙ bj in
   let un : unpacked w (take (length gs * w) (joined (packed-bytes w) gs ++ bs)) (8 * length gs) ≡ flat gs = ap₂ (λ a b. unpacked w a b) bt (sym lf) ∙ row-reads w (flat gs) small in
   reads-more w place (1 + length gs * w) _ (flat gs) ks rest ((2 * length gs + 1) ∷ joined (packed-bytes w) gs) bs some
-    (a-packed (length gs) 1 hd pos (omega (arith, length-append (joined (packed-bytes w) gs) bs))) (omega arith)
+    (a-packed (length gs) 1 hd pos (omega arith) (omega (arith, length-append (joined (packed-bytes w) gs) bs))) (omega arith)
     un (sym lf) (omega arith) front
     (subst (λ t. Reads-as w (place + t) rest bs) (omega arith) next)
 

@@ -16,7 +16,7 @@ use Rattle.page_format.specs.Bits.{read-varint, bytes-for}
 use Rattle.page_format.specs.Limits.{key-width}
 use Rattle.page_format.specs.declared.field.Field.{Field}
 use Rattle.page_format.specs.declared.field.BadField.{BadField}
-use Rattle.key_pages.specs.Meaning.{Read-run, repeats, packs, run-length, Header, Run-at, a-repeat, a-packed, Runs-of, no-more, one-more, Wrong-run, no-header, empty-run, too-many, cut-value, cut-groups, Wrong-at, left-over, here, later, Means, means, Malformed, no-width, wide, wrong}
+use Rattle.key_pages.specs.Meaning.{Read-run, repeats, packs, run-length, Header, Run-at, a-repeat, a-packed, Runs-of, no-more, one-more, Wrong-run, no-header, empty-run, too-many, cut-value, too-long, cut-groups, Wrong-at, left-over, here, later, Means, means, Malformed, no-width, wide, wrong, most-values}
 use Rattle.key_pages.specs.Reading.{Step, a-run, no-run, repeat-step, packed-step, header-step, field-step, read-run, Walk, walk-end, walk-on, walk-step, walk-by, walk-in, walk, page-walk}
 
 -- what one step says of the bytes
@@ -36,9 +36,12 @@ repeat-says w place left bs count n h pos = elim (cases-bool (ltb left count)) [
 
 packed-says : (w place left : ℕ) (bs : List ℕ) (groups n : ℕ) → Header bs (2 * groups + 1) n → 0 < groups → Says w place left bs (packed-step w place bs groups n)
 unfolding packed-step
-packed-says w place left bs groups n h pos = elim (cases-bool (ltb (length bs) (n + groups * w))) [
-  | inl f ↦ rw f (cut-groups groups n h pos (ltb-true (length bs) (n + groups * w) f))
-  | inr f ↦ rw f (a-packed groups n h pos (ltb-false (length bs) (n + groups * w) f))
+packed-says w place left bs groups n h pos = elim (cases-bool (ltb most-values (8 * groups))) [
+  | inl e ↦ rw e (too-long groups n h (ltb-true most-values (8 * groups) e))
+  | inr e ↦ rw e (elim (cases-bool (ltb (length bs) (n + groups * w))) [
+    | inl f ↦ rw f (cut-groups groups n h pos (ltb-false most-values (8 * groups) e) (ltb-true (length bs) (n + groups * w) f))
+    | inr f ↦ rw f (a-packed groups n h pos (ltb-false most-values (8 * groups) e) (ltb-false (length bs) (n + groups * w) f))
+  ])
 ]
 
 header-says : (w place left : ℕ) (bs : List ℕ) (h n : ℕ) → Header bs h n → Says w place left bs (header-step w place left bs h n)
@@ -96,9 +99,9 @@ unfolding repeat-step packed-step
 run-read w place left bs run size (a-repeat count n h pos few fits) =
     headed w place left bs (2 * count) n h ∙ even-header w place left bs count n pos
     ∙ rw (le-ltb left count few, le-ltb (length bs) (n + bytes-for w) fits)
-run-read w place left bs run size (a-packed groups n h pos fits) =
+run-read w place left bs run size (a-packed groups n h pos few fits) =
     headed w place left bs (2 * groups + 1) n h ∙ odd-header w place left bs groups n pos
-    ∙ rw (le-ltb (length bs) (n + groups * w) fits)
+    ∙ rw (le-ltb most-values (8 * groups) few, le-ltb (length bs) (n + groups * w) fits)
 
 pub run-wrong : (w place left : ℕ) (bs : List ℕ) (k : ℕ) → Wrong-run w left bs k → read-run w place left bs ≡ no-run k
 unfolding header-step repeat-step packed-step read-run
@@ -108,18 +111,20 @@ run-wrong w place left bs k (too-many count n e lt) = headed w place left bs (2 
     ∙ even-header w place left bs count n (omega arith) ∙ rw (lt-ltb left count lt)
 run-wrong w place left bs k (cut-value count n e pos few lt) = headed w place left bs (2 * count) n e
     ∙ even-header w place left bs count n pos ∙ rw (le-ltb left count few, lt-ltb (length bs) (n + bytes-for w) lt)
-run-wrong w place left bs k (cut-groups groups n e pos lt) = headed w place left bs (2 * groups + 1) n e
-    ∙ odd-header w place left bs groups n pos ∙ rw (lt-ltb (length bs) (n + groups * w) lt)
+run-wrong w place left bs k (too-long groups n e lt) = headed w place left bs (2 * groups + 1) n e
+    ∙ odd-header w place left bs groups n (omega arith) ∙ rw (lt-ltb most-values (8 * groups) lt)
+run-wrong w place left bs k (cut-groups groups n e pos few lt) = headed w place left bs (2 * groups + 1) n e
+    ∙ odd-header w place left bs groups n pos ∙ rw (le-ltb most-values (8 * groups) few, lt-ltb (length bs) (n + groups * w) lt)
 
 -- a run has a value, and lies within the bytes
 
 pub run-long : (w place left : ℕ) (bs : List ℕ) (run : Read-run) (size : ℕ) → Run-at w place left bs run size → 0 < run-length run
 run-long w place left bs run size (a-repeat count n h pos few fits) = pos
-run-long w place left bs run size (a-packed groups n h pos fits) = omega arith
+run-long w place left bs run size (a-packed groups n h pos few fits) = omega arith
 
 pub run-within : (w place left : ℕ) (bs : List ℕ) (run : Read-run) (size : ℕ) → Run-at w place left bs run size → size ≤ length bs
 run-within w place left bs run size (a-repeat count n h pos few fits) = fits
-run-within w place left bs run size (a-packed groups n h pos fits) = fits
+run-within w place left bs run size (a-packed groups n h pos few fits) = fits
 
 -- the walk, one step unfolded
 

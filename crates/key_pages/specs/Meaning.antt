@@ -31,6 +31,10 @@ unfoldable pub run-values : ℕ → Read-run → List ℕ
 run-values w (repeats place count value) = replicate count (le-number value)
 run-values w (packs place groups bytes) = unpacked w bytes (8 * groups)
 
+-- a run has at most 2^31 − 1 values; a repeat's header cannot say more
+abbrev pub most-values : ℕ
+most-values = 2147483647
+
 -- bs begin with a run's header h, a varint of n bytes
 abbrev pub Header : List ℕ → ℕ → ℕ → Type 0
 Header bs h n = read-varint 32 bs ≡ Ok (record { value = h; len = n })
@@ -39,7 +43,7 @@ Header bs h n = read-varint 32 bs ≡ Ok (record { value = h; len = n })
 pub data Run-at (w place left : ℕ) (bs : List ℕ) : Read-run → ℕ → Type 0 where
   a-repeat : (count n : ℕ) → Header bs (2 * count) n → 0 < count → count ≤ left → n + bytes-for w ≤ length bs
       → Run-at w place left bs (repeats place count (take (bytes-for w) (drop n bs))) (n + bytes-for w)
-  a-packed : (groups n : ℕ) → Header bs (2 * groups + 1) n → 0 < groups → n + groups * w ≤ length bs
+  a-packed : (groups n : ℕ) → Header bs (2 * groups + 1) n → 0 < groups → 8 * groups ≤ most-values → n + groups * w ≤ length bs
       → Run-at w place left bs (packs place groups (take (groups * w) (drop n bs))) (n + groups * w)
 
 -- bs are these runs and nothing else; only the last may have more values than are owed, and only if it is packed
@@ -55,7 +59,8 @@ pub data Wrong-run (w left : ℕ) (bs : List ℕ) : ℕ → Type 0 where
   empty-run : (h n : ℕ) → Header bs h n → h < 2 → Wrong-run w left bs 0
   too-many : (count n : ℕ) → Header bs (2 * count) n → left < count → Wrong-run w left bs 0
   cut-value : (count n : ℕ) → Header bs (2 * count) n → 0 < count → count ≤ left → length bs < n + bytes-for w → Wrong-run w left bs n
-  cut-groups : (groups n : ℕ) → Header bs (2 * groups + 1) n → 0 < groups → length bs < n + groups * w → Wrong-run w left bs n
+  too-long : (groups n : ℕ) → Header bs (2 * groups + 1) n → most-values < 8 * groups → Wrong-run w left bs 0
+  cut-groups : (groups n : ℕ) → Header bs (2 * groups + 1) n → 0 < groups → 8 * groups ≤ most-values → length bs < n + groups * w → Wrong-run w left bs n
 
 -- the place of the first wrong field of bs, which begin at a place of the page and owe `left` values
 pub data Wrong-at (w : ℕ) : ℕ → ℕ → List ℕ → ℕ → Type 0 where

@@ -12,7 +12,7 @@ use Rattle.page_format.specs.Bits.{read-varint, bytes-for}
 use Rattle.page_format.specs.Limits.{key-width}
 use Rattle.page_format.specs.declared.field.Field.{Field}
 use Rattle.page_format.specs.declared.field.BadField.{BadField}
-use Rattle.key_pages.specs.Meaning.{Read-run, repeats, packs, run-length}
+use Rattle.key_pages.specs.Meaning.{Read-run, repeats, packs, run-length, most-values}
 
 -- what stands at the front of some bytes: a run in so many bytes, or none, with its first wrong field
 pub data Step : Type 0 where
@@ -29,8 +29,9 @@ repeat-step w place left bs count n =
 -- packed groups behind a header of n bytes
 unfoldable pub packed-step : ℕ → ℕ → List ℕ → ℕ → ℕ → Step
 packed-step w place bs groups n =
-    cond (ltb (length bs) (n + groups * w)) (no-run n)
-    (a-run (packs place groups (take (groups * w) (drop n bs))) (n + groups * w))
+    cond (ltb most-values (8 * groups)) (no-run 0)
+    (cond (ltb (length bs) (n + groups * w)) (no-run n)
+    (a-run (packs place groups (take (groups * w) (drop n bs))) (n + groups * w)))
 
 -- a run whose header is h, in n bytes
 unfoldable pub header-step : ℕ → ℕ → ℕ → List ℕ → ℕ → ℕ → Step

@@ -11,6 +11,9 @@ use crate::cursors::Runs;
 use crate::run::Run;
 use page_format::read_varint;
 
+// The most values of a run.
+const MOST_VALUES: usize = 2_147_483_647;
+
 // A run and its size in bytes.
 pub struct Found<'a> {
     run: Run<'a>,
@@ -58,6 +61,9 @@ fn read_groups<'a>(
     requires few { ⌜ groups < 2 ^ 32 ⌝ }
     ensures step { λ r. ⌜ Read-as (packed-step width place (now (bytes .entry)) groups start) r ⌝ }
 {
+    if 8 * groups > MOST_VALUES {
+        return Err(0);
+    }
     let size = groups * width as usize;
     if bytes.len() - start < size {
         return Err(start);
