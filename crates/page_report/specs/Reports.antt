@@ -5,7 +5,12 @@ use mathlib.Core.Bool.{Bool}
 use mathlib.Core.Path.{_≡_}
 use lib.Chars.{codes}
 use lib.ListN.{length, getD}
+use Rattle.std.specs.Of.Vec.{vec-items}
 use Rattle.std.specs.Orderings.{Decides}
+use Rattle.std.specs.declared.alloc.Global.{Global}
+use Rattle.std.specs.declared.option.Option.{Option}
+use Rattle.std.specs.declared.option.Option.the-variants.{Some, None}
+use Rattle.std.specs.declared.vec.Vec.{Vec}
 use Rattle.std.specs.shelf.Lists.{joined, All, Has}
 use Rattle.page_format.specs.Bits.{Bits-of}
 use Rattle.page_format.specs.declared.fault.Fault.{Fault}
@@ -28,6 +33,11 @@ pub record Makes (w : ℕ) (keys bytes : List ℕ) : Type 0 where
   pub limited : Within-limits w (length keys)
   pub fits : All (λ k. k < 2 ^ w) keys
   pub is : page w keys ≡ bytes
+
+-- the page that our writer makes of these keys, or none where it makes none
+abbrev pub Own-page : ℕ → List ℕ → Option (Vec ℕ Global) → Type 0
+Own-page w keys None = (bytes : List ℕ) → Makes w keys bytes → ⊥
+Own-page w keys (Some v) = Makes w keys (vec-items v)
 
 -- what is told of a page that opens
 pub record Told (bytes : List ℕ) (count entries : ℕ) (text : List ℕ) : Type 0 where

@@ -8,6 +8,7 @@ ghost use Rattle.page_report.specs.Reports.{Report};
 use lines::complaint_line;
 use page_text::Input;
 use page_text::read_request;
+pub use pages::own_page;
 use pages::page_report;
 use std::alloc::AllocError;
 use std::alloc::Global;

@@ -35,7 +35,13 @@ pub(crate) fn fault_line(heap: Global, fault: Fault) -> Result<String, AllocErro
 }
 
 // A run of this sort: its count or its groups, its bytes, and its place.
-fn run_text(heap: Global, sort: &str, number: usize, bytes: &[u8], place: usize) -> Result<String, AllocError>
+fn run_text(
+    heap: Global,
+    sort: &str,
+    number: usize,
+    bytes: &[u8],
+    place: usize,
+) -> Result<String, AllocError>
     ensures { λ r. ⌜ made r (λ s. string-bytes s ≡ run-text (now (sort .entry)) number (now (bytes .entry)) place) ⌝ }
 {
     let mut hex = String::new(heap);
@@ -47,8 +53,16 @@ fn run_line(heap: Global, run: Run<'_>) -> Result<String, AllocError>
     ensures { λ r. ⌜ made r (λ s. string-bytes s ≡ run-line (view (run .entry))) ⌝ }
 {
     match run {
-        Run::Repeat { count, value, place } => run_text(heap, "repeat", count, value, place),
-        Run::Packed { groups, bytes, place } => run_text(heap, "packed", groups, bytes, place),
+        Run::Repeat {
+            count,
+            value,
+            place,
+        } => run_text(heap, "repeat", count, value, place),
+        Run::Packed {
+            groups,
+            bytes,
+            place,
+        } => run_text(heap, "packed", groups, bytes, place),
     }
 }
 

@@ -9,7 +9,7 @@ ghost use Rattle.std.specs.Vec.{made};
 ghost use Rattle.key_pages.specs.Coming.{keys-to-come};
 ghost use Rattle.key_pages.specs.Meaning.{Read-run, keys-of};
 ghost use Rattle.key_pages.specs.Opening.{Accepted, Opened};
-ghost use Rattle.page_report.specs.Reports.{Once, Makes, Told, Answered};
+ghost use Rattle.page_report.specs.Reports.{Once, Makes, Own-page, Told, Answered};
 use crate::lines::fault_line;
 use crate::lines::push_list;
 use crate::lines::push_runs;
@@ -44,22 +44,38 @@ fn used_list(heap: Global, page: &KeyPage<'_>) -> Result<Vec<u32>, AllocError>
     Ok(list)
 }
 
+// The page that our writer makes of these keys, or none where it rejects them.
+pub fn own_page(heap: Global, width: usize, keys: &[u32]) -> Result<Option<Vec<u8>>, AllocError>
+    ensures makes { λ r. ⌜ made r (λ o. Own-page width (now (keys .entry)) o) ⌝ }
+{
+    let Ok(most) = max_buffer_size(width, keys.len()) else {
+        return Ok(None);
+    };
+    let mut buffer = vec![in heap; 0u8; 1 + most]?;
+    let Ok(len) = write_key_page(buffer.as_mut_slice(), width, keys) else {
+        return Ok(None);
+    };
+    buffer.truncate(len);
+    Ok(Some(buffer))
+}
+
 // Whether our writer makes these bytes of these keys.
 fn makes(heap: Global, width: usize, keys: &[u32], bytes: &[u8]) -> Result<bool, AllocError>
     ensures { λ r. ⌜ made r (λ b. Decides b (Makes width (now (keys .entry)) (now (bytes .entry)))) ⌝ }
 {
-    let Ok(most) = max_buffer_size(width, keys.len()) else {
-        return Ok(false);
-    };
-    let mut buffer = vec![in heap; 0u8; 1 + most]?;
-    let Ok(len) = write_key_page(buffer.as_mut_slice(), width, keys) else {
-        return Ok(false);
-    };
-    Ok(&buffer.as_slice()[0..len] == bytes)
+    match own_page(heap, width, keys)? {
+        Some(page) => Ok(page.as_slice() == bytes),
+        None => Ok(false),
+    }
 }
 
 // What is in a page that was opened.
-fn contents(heap: Global, page: &KeyPage<'_>, bytes: &[u8], entries: usize) -> Result<String, AllocError>
+fn contents(
+    heap: Global,
+    page: &KeyPage<'_>,
+    bytes: &[u8],
+    entries: usize,
+) -> Result<String, AllocError>
     ensures { λ r. ⌜ made r (λ s. (count : ℕ) → Opened (now (bytes .entry)) count entries (now (page .entry)) → Told (now (bytes .entry)) count entries (string-bytes s)) ⌝ }
 {
     let keys = collect_keys(heap, page.keys())?;
@@ -74,7 +90,12 @@ fn contents(heap: Global, page: &KeyPage<'_>, bytes: &[u8], entries: usize) -> R
 }
 
 // What is in a page, or why it is rejected.
-pub(crate) fn page_report(heap: Global, bytes: &[u8], count: usize, entries: usize) -> Result<String, AllocError>
+pub(crate) fn page_report(
+    heap: Global,
+    bytes: &[u8],
+    count: usize,
+    entries: usize,
+) -> Result<String, AllocError>
     ensures { λ r. ⌜ made r (λ s. Answered (now (bytes .entry)) count entries (string-bytes s)) ⌝ }
 {
     match KeyPage::open(bytes, count, entries) {

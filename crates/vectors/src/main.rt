@@ -1,6 +1,8 @@
 // Replays recorded answers of the Rust crate parquet 60.0.0, and prints how many agree.
 // The input has two lines for each: a command, and `= ` with the crate's answer.
 mod replay;
+#[cfg(test)]
+mod tests;
 
 use replay::answer;
 use std::error::AnyError;

@@ -1,17 +1,15 @@
 // Our answer to a recorded command, in the words of the recorder.
-ghost use mathlib.Core.Path.{_≡_};
-ghost use mathlib.Core.List.{_++_};
-ghost use lib.Chars.{codes};
 ghost use Rattle.std.specs.Of.String.{string-bytes};
-ghost use Rattle.std.specs.Of.Vec.{vec-items};
+ghost use Rattle.std.specs.Vec.{made};
+ghost use Rattle.vectors.specs.Answers.{Page-answer, Size-answer};
 use key_pages::max_buffer_size;
-use key_pages::write_key_page;
+use page_report::own_page;
 use page_text::push_hex;
 use std::alloc::AllocError;
 use std::alloc::Global;
 use std::str::SplitWhitespace;
 
-// `keys W K K ..` is the page of the keys at width W, `maxsize W N` the bound for N keys.
+// `keys W K K ..` asks for the page of the keys at width W, `maxsize W N` for the bound of N keys.
 pub fn answer(heap: Global, command: &str) -> Result<String, AllocError> {
     let mut words = command.split_whitespace();
     match words.next() {
@@ -21,6 +19,7 @@ pub fn answer(heap: Global, command: &str) -> Result<String, AllocError> {
     }
 }
 
+// A word that is no number counts as 0, and its answer then differs from the recorded one.
 fn number(word: Option<&str>) -> u32 {
     match word {
         Some(text) => text.parse::<u32>().unwrap_or(0),
@@ -34,28 +33,33 @@ fn keys_answer(heap: Global, mut words: SplitWhitespace<'_>) -> Result<String, A
     for word in words {
         keys.push(number(Some(word)))?;
     }
-    key_page(heap, width, keys.as_slice())
-}
-
-// The page of the keys, in hex.
-pub fn key_page(heap: Global, width: usize, keys: &[u32]) -> Result<String, AllocError> {
-    let Ok(most) = max_buffer_size(width, keys.len()) else {
-        return String::from_str(heap, "above a limit");
-    };
-    let mut buffer = vec![in heap; 0u8; 1 + most]?;
-    let Ok(len) = write_key_page(buffer.as_mut_slice(), width, keys) else {
-        return String::from_str(heap, "rejected");
-    };
-    let mut text = String::from_str(heap, "keys :")?;
-    push_hex(&mut text, &buffer.as_slice()[0..len])?;
-    Ok(text)
+    page_line(heap, width, keys.as_slice())
 }
 
 fn size_answer(heap: Global, mut words: SplitWhitespace<'_>) -> Result<String, AllocError> {
     let width = number(words.next()) as usize;
     let count = number(words.next()) as usize;
+    size_line(heap, width, count)
+}
+
+// The page of the keys, in hex.
+pub fn page_line(heap: Global, width: usize, keys: &[u32]) -> Result<String, AllocError>
+    ensures page { λ r. ⌜ made r (λ s. Page-answer width (now (keys .entry)) (string-bytes s)) ⌝ }
+{
+    let Some(page) = own_page(heap, width, keys)? else {
+        return String::from_str(heap, "rejected");
+    };
+    let mut text = String::from_str(heap, "keys :")?;
+    push_hex(&mut text, page.as_slice())?;
+    Ok(text)
+}
+
+// The most bytes that so many keys take.
+fn size_line(heap: Global, width: usize, count: usize) -> Result<String, AllocError>
+    ensures size { λ r. ⌜ made r (λ s. Size-answer width count (string-bytes s)) ⌝ }
+{
     match max_buffer_size(width, count) {
         Ok(size) => format!(heap, "maxsize {size}"),
-        Err(_) => String::from_str(heap, "above a limit"),
+        Err(_) => String::from_str(heap, "rejected"),
     }
 }

@@ -7,6 +7,6 @@ use Rattle.page_report.proofs.lines.fault_line.Needs as need
 
 pub returns : need.returns
 returns c =
-  made-weaker (c .format .result) _ _
+    made-weaker (c .format .result) _ _
     (λ s e. e ∙ ap₂ (λ n l. codes "fault " ++ (decimal n ++ (codes " " ++ (decimal l ++ (codes " " ++ (decimal (c .args .fault .place) ++ codes "\n")))))) (c .number-number .ensures) (c .number-layer .ensures))
     (c .format .ensures .made)

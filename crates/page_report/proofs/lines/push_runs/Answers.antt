@@ -14,11 +14,11 @@ loop-run-less c = omega (arith, ap length (c .in-Some .ensures tt .gives))
 
 pub loop-run-again : need.loop-run-again
 loop-run-again c =
-  ap (λ t. t ++ joined run-line (runs-to-come (c .next .last .self))) (c .in-Continue-push-str .ensures tt .bytes ∙ ap (λ t. string-bytes (c .loop-run .out) ++ t) (c .as-str .ensures .value ∙ c .in-Continue-line .ensures tt))
-  ∙ append-assoc (string-bytes (c .loop-run .out)) _ _
-  ∙ ap (λ t. string-bytes (c .loop-run .out) ++ joined run-line t) (sym (c .in-Some .ensures tt .gives))
-  ∙ c .loop-run .inv
+    ap (λ t. t ++ joined run-line (runs-to-come (c .next .last .self))) (c .in-Continue-push-str .ensures tt .bytes ∙ ap (λ t. string-bytes (c .loop-run .out) ++ t) (c .as-str .ensures .value ∙ c .in-Continue-line .ensures tt))
+    ∙ append-assoc (string-bytes (c .loop-run .out)) _ _
+    ∙ ap (λ t. string-bytes (c .loop-run .out) ++ joined run-line t) (sym (c .in-Some .ensures tt .gives))
+    ∙ c .loop-run .inv
 
 pub returns : need.returns
 returns c =
-  sym (append-nil (string-bytes (c .loop-run .out))) ∙ ap (λ t. string-bytes (c .loop-run .out) ++ joined run-line t) (sym (c .in-rest .ensures tt .gives .0)) ∙ c .loop-run .inv
+    sym (append-nil (string-bytes (c .loop-run .out))) ∙ ap (λ t. string-bytes (c .loop-run .out) ++ joined run-line t) (sym (c .in-rest .ensures tt .gives .0)) ∙ c .loop-run .inv

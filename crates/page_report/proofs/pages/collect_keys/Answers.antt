@@ -12,10 +12,10 @@ loop-key-less c = omega (arith, ap length (c .in-Some .ensures tt .gives))
 
 pub loop-key-again : need.loop-key-again
 loop-key-again c =
-  ap (λ t. t ++ keys-to-come (c .next .last .self)) (c .in-Continue-push .ensures tt .items)
-  ∙ append-assoc (vec-items (c .loop-key .list)) _ _
-  ∙ ap (λ t. vec-items (c .loop-key .list) ++ t) (sym (c .in-Some .ensures tt .gives))
-  ∙ c .loop-key .inv
+    ap (λ t. t ++ keys-to-come (c .next .last .self)) (c .in-Continue-push .ensures tt .items)
+    ∙ append-assoc (vec-items (c .loop-key .list)) _ _
+    ∙ ap (λ t. vec-items (c .loop-key .list) ++ t) (sym (c .in-Some .ensures tt .gives))
+    ∙ c .loop-key .inv
 
 pub returns : need.returns
 returns c = sym (append-nil (vec-items (c .loop-key .list))) ∙ ap (λ t. vec-items (c .loop-key .list) ++ t) (sym (c .in-rest .ensures tt .gives .0)) ∙ c .loop-key .inv
