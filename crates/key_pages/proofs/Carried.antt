@@ -187,23 +187,24 @@ fill-closes m e out h c g = subst (λ t. Holds t (closing e (Gathering 0)) out) 
   counts = (refl, omega arith);
 })
 
--- the same machine, held with another state
-pub rests : (m : Writer) (e : RleEncoder) (s : State) (out : List ℕ) → Stands m e out → Counts s (m .count) → Holds m (resting e s) out
-rests m e s out h c = record {
-  stands = record {
-    front = h .front;
-    within = h .within;
-    narrow = h .narrow;
-    counted = h .counted;
-    heads = h .heads;
-    eight = h .eight;
-    waits = h .waits;
-    waiting-is = h .waiting-is;
-    last-is = h .last-is;
-    inside = h .inside;
-  };
-  counts = c;
+-- the same machine but for its count, held with another state
+recounted : (m : Writer) (e : RleEncoder) (s : State) (n : ℕ) (out : List ℕ) → Stands m e out
+    → Stands (record { runs = m .runs; groups = m .groups; part = m .part; last = m .last; count = n }) (resting e s) out
+recounted m e s n out h = record {
+  front = h .front;
+  within = h .within;
+  narrow = h .narrow;
+  counted = h .counted;
+  heads = h .heads;
+  eight = h .eight;
+  waits = h .waits;
+  waiting-is = h .waiting-is;
+  last-is = h .last-is;
+  inside = h .inside;
 }
+
+pub rests : (m : Writer) (e : RleEncoder) (s : State) (out : List ℕ) → Stands m e out → Counts s (m .count) → Holds m (resting e s) out
+rests m e s out h c = record { stands = recounted m e s (m .count) out h; counts = c }
 
 pub fill-packs : (m : Writer) (e : RleEncoder) (out : List ℕ) → Stands (packing m) e out → (m .count ≡ 8 → ⊥) → (length (m .groups) ≡ 62 → ⊥)
     → Holds (filling m) (resting e (Gathering 0)) out
@@ -267,20 +268,8 @@ pub put-again : (m : Writer) (e : RleEncoder) (out : List ℕ) (key r : ℕ) →
     → Holds (put m key) (resting e (Repeating (r + 1))) out
 put-again m e out key r h k is =
     let n = repeats-long (e .state) r (m .count) is (h .counts) in
-    let s = h .stands in
-    subst (λ t. Holds t (resting e (Repeating (r + 1))) out) (sym (put-long m key (k ∙ s .last-is) (n .1))) (record {
-      stands = record {
-        front = s .front;
-        within = s .within;
-        narrow = s .narrow;
-        counted = s .counted;
-        heads = s .heads;
-        eight = s .eight;
-        waits = s .waits;
-        waiting-is = s .waiting-is;
-        last-is = s .last-is;
-        inside = s .inside;
-      };
+    subst (λ t. Holds t (resting e (Repeating (r + 1))) out) (sym (put-long m key (k ∙ h .stands .last-is) (n .1))) (record {
+      stands = recounted m e (Repeating (r + 1)) (m .count + 1) out (h .stands);
       counts = (omega (arith, n .0), omega (arith, n .1));
     })
 
