@@ -1,7 +1,7 @@
 -- One run on.
-use Prim.Native.Nat.{ℕ, zero, suc, _+_, _-_, _*_, _/_, _%_, _^_, _≤_, _<_}
-use mathlib.Core.List.{List, [], _∷_}
-use mathlib.Core.Path.{_≡_, refl, sym, ap, _∙_, subst}
+use Prim.Native.Nat.{ℕ, _+_, _-_, _*_, _^_, _≤_, _<_}
+use mathlib.Core.List.{List}
+use mathlib.Core.Path.{_≡_, sym, ap, _∙_}
 use native.Mathlib.Omega.{arith}
 use mathlib.Core.Bool.{true, _&&_}
 use lib.Dec.{eqb, ltb}
@@ -9,7 +9,7 @@ use lib.ListN.{length, take, drop, length-drop}
 use Rattle.std.proofs.shelf.Lists.{length-take-le, take-rest}
 use Rattle.std.proofs.shelf.Tests.{and-parts, and-from, eqb-true, ltb-true, eq-eqb, lt-ltb}
 use Rattle.page_format.specs.Bits.{bytes-for}
-use Rattle.key_pages.specs.Meaning.{Read-run, repeats, packs, run-length, Run-at, a-repeat, a-packed, Wrong-run, no-header, empty-run, too-many, cut-value, too-long, cut-groups}
+use Rattle.key_pages.specs.Meaning.{Read-run, repeats, packs, Run-at, a-repeat, a-packed, Wrong-run, no-header, empty-run, too-many, cut-value, too-long, cut-groups}
 use Rattle.key_pages.specs.Views.{whole}
 use Rattle.key_pages.specs.Reading.{Step, a-run, no-run, read-run}
 use Rattle.key_pages.proofs.Fields.{varint-sized}

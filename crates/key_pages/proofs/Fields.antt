@@ -1,12 +1,11 @@
 -- Bounds on the fields of a page.
-use Prim.Native.Nat.{ℕ, zero, suc, _+_, _-_, _*_, _/_, _%_, _^_, _≤_, _<_}
+use Prim.Native.Nat.{ℕ, zero, suc, _+_, _-_, _*_, _/_, _^_, _≤_, _<_}
 use mathlib.Core.List.{List, [], _∷_}
-use mathlib.Core.Bool.{Bool, true, false, cond}
-use mathlib.Core.Path.{_≡_, refl, sym, ap, _∙_, subst}
-use mathlib.Core.Logic.{_⊎_, inl, inr}
+use mathlib.Core.Path.{_≡_, ap, _∙_, subst}
+use mathlib.Core.Logic.{inl, inr}
 use native.Mathlib.Omega.{arith}
-use lib.Dec.{eqb, ltb, leb}
-use lib.ListN.{length, getD, take, drop}
+use lib.Dec.{leb}
+use lib.ListN.{length, getD, take}
 use lib.Pow.{pow-mono}
 use native.Mathlib.Numerals.{add-one}
 use Rattle.std.proofs.shelf.Bits.{pow-pos, pow-add, mod-below}
@@ -17,7 +16,6 @@ use Rattle.std.proofs.shelf.Tests.{cases-bool, leb-false, le-ltb}
 use Rattle.page_format.specs.Bits.{read-varint, varint-bytes, continued, sevens, le-number, read-le, packed-value, read-packed}
 use Rattle.page_format.specs.declared.field.Field.{Field}
 use Rattle.page_format.specs.declared.field.BadField.{BadField}
-use Rattle.page_format.specs.declared.field.BadField.the-variants.{Cut, TooLong, TooLarge}
 
 -- a field lies within its bytes and its type
 pub record Sized (w : ℕ) (bs : List ℕ) (f : Field) : Type 0 where

@@ -5,12 +5,11 @@ use mathlib.Core.Bool.{Bool, true, false, cond}
 use mathlib.Core.Path.{_≡_, refl, sym, ap, _∙_, subst}
 use mathlib.Core.Logic.{_⊎_, inl, inr}
 use native.Mathlib.Omega.{arith}
-use native.Mathlib.Numerals.{add-one}
 use lib.ListN.{length, getD, set, take, drop, replicate}
 use Rattle.std.specs.shelf.Lists.{All, Has}
 use Rattle.std.proofs.shelf.Elements.{has-append-left, has-push, has-push-cases, has-getD, all-has, all-weaker}
 use Rattle.std.proofs.shelf.Lists.{append-assoc, append-nil, getD-set-same, getD-set-other, getD-take, length-set, length-take-le, length-replicate, drop-set-lt, drop-drop, getD-default}
-use Rattle.std.proofs.shelf.Tests.{cases-bool, cases-eq, cases-lt, both-ways, false≢true}
+use Rattle.std.proofs.shelf.Tests.{cases-eq, both-ways}
 use Rattle.page_format.specs.Limits.{most-entries}
 use Rattle.key_pages.specs.Listing.{Lists-once}
 

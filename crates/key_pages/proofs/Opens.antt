@@ -1,38 +1,36 @@
 -- Opening a page.
-use Prim.Native.Nat.{ℕ, zero, suc, _+_, _-_, _*_, _^_, _≤_, _<_}
-use mathlib.Core.List.{List, [], _∷_, _++_}
-use mathlib.Core.Bool.{Bool, true, false, cond}
+use Prim.Native.Nat.{ℕ, _+_, _-_, _≤_, _<_}
+use mathlib.Core.List.{List, [], _∷_}
+use mathlib.Core.Bool.{cond}
 use mathlib.Core.Path.{_≡_, refl, sym, ap, _∙_, subst}
 use mathlib.Core.Logic.{_⊎_, inl, inr}
 use native.Mathlib.Omega.{arith}
-use native.Mathlib.Numerals.{add-one}
 use denote.Ref.{now}
-use lib.Dec.{eqb, ltb}
+use lib.Dec.{ltb}
 use lib.ListN.{length, getD, take, drop, length-drop}
 use Rattle.std.specs.shelf.Lists.{All, joined}
 use Rattle.std.specs.declared.option.Option.{Option}
 use Rattle.std.specs.declared.option.Option.the-variants.{Some, None}
-use Rattle.std.specs.declared.result.Result.{Result}
 use Rattle.std.specs.declared.result.Result.the-variants.{Ok, Err}
 use Rattle.std.proofs.shelf.Elements.{all-more, all-getD}
-use Rattle.std.proofs.shelf.Lists.{drop-more, take-all, length-take}
-use Rattle.std.proofs.shelf.Tests.{cases-bool, ltb-true, ltb-false, le-ltb, lt-ltb}
+use Rattle.std.proofs.shelf.Lists.{drop-more, take-all, length-take, length-take-le, length-append}
+use Rattle.std.proofs.shelf.Tests.{cases-bool, ltb-false, le-ltb}
 use Rattle.page_format.specs.Faults.{Numbered, rejection-number, layer-number}
 use Rattle.page_format.specs.Limits.{key-width, page-values, most-entries}
 use Rattle.page_format.specs.declared.fault.Fault.{Fault}
 use Rattle.page_format.specs.declared.fault.Rejection.{Rejection}
 use Rattle.page_format.specs.declared.fault.Rejection.the-variants.{AboveLimit, MalformedPage, KeyOutside}
 use Rattle.page_format.specs.declared.fault.Layer.the-variants.{Reader}
-use Rattle.key_pages.specs.Meaning.{Read-run, run-length, run-values, Means, means, Malformed, no-width, wide, wrong, keys-of, First-outside}
-use Rattle.key_pages.specs.Reading.{a-run, no-run, Walk, walk-end, walk-on, walk, page-walk, width-of}
+use Rattle.key_pages.specs.Meaning.{Read-run, run-length, run-values, Runs-of, no-more, one-more, Means, means, Malformed, keys-of, First-outside}
+use Rattle.key_pages.specs.Reading.{walk, page-walk, width-of}
 use Rattle.key_pages.specs.Views.{view}
-use Rattle.key_pages.specs.Coming.{Advanced, Behind, Gives, Outside, walk-from, next-step, runs-to-come, values-to-come, keys-to-come}
+use Rattle.key_pages.specs.Coming.{Advanced, walk-from, values-to-come, keys-to-come}
 use Rattle.key_pages.specs.Opening.{Accepted, Refused, above-limit, malformed, key-outside, Decided}
 use Rattle.key_pages.specs.declared.run.Run.{Run}
 use Rattle.key_pages.specs.declared.cursors.Runs.{Runs}
 use Rattle.key_pages.specs.declared.cursors.Keys.{Keys}
 use Rattle.key_pages.proofs.Walking.{walk-done, walk-stop, run-found, run-long, Page-told, page-told, means-walk, malformed-walk}
-use Rattle.key_pages.proofs.Stepping.{walk-behind}
+use Rattle.key_pages.proofs.Stepping.{walk-behind, length-values}
 
 -- the width
 
@@ -228,6 +226,19 @@ decided-by : (page : List ℕ) (count : ℕ) (o : Option ℕ) → Page-told page
 decided-by page count None (w, m) = inl (w, page-walk page count .runs, m)
 decided-by page count (Some p) m = inr (p, m)
 
+values-enough : (w place left : ℕ) (bs : List ℕ) (rs : List Read-run) → Runs-of w place left bs rs → left ≤ length (joined (run-values w) rs)
+values-enough w place left bs rs no-more = omega arith
+values-enough w place left bs rs (one-more {size = size} {run = run} {runs = runs} pos at more) =
+    omega (
+      arith,
+      length-append (run-values w run) (joined (run-values w) runs),
+      length-values w run,
+      values-enough w (place + size) (left - run-length run) (drop size bs) runs more,
+    )
+
+keys-counted : (page : List ℕ) (count w : ℕ) (rs : List Read-run) → Means page count w rs → length (keys-of w count rs) ≡ count
+keys-counted page count w rs (means {bs = bs} h t) = length-take-le count (joined (run-values w) rs) (values-enough w 1 count bs rs t)
+
 pub decided : (page : List ℕ) (count : ℕ) → Decided page count
 decided page count = record {
   either = decided-by page count (page-walk page count .fault) (page-told page count);
@@ -244,4 +255,5 @@ decided page count = record {
       let x = malformed-walk page count p m in
       let y = malformed-walk page count q n in
       cc;
+  key-count = keys-counted page count;
 }

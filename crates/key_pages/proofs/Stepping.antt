@@ -1,9 +1,8 @@
 -- What `next` of runs and of keys gives.
-use Prim.Native.Nat.{ℕ, zero, suc, _+_, _-_, _*_, _^_, _≤_, _<_}
+use Prim.Native.Nat.{ℕ, zero, suc, _+_, _-_, _*_, _≤_, _<_}
 use mathlib.Core.List.{List, [], _∷_, _++_}
 use mathlib.Core.Bool.{true}
 use mathlib.Core.Path.{_≡_, refl, sym, ap, _∙_, subst}
-use mathlib.Core.Logic.{_⊎_, inl, inr}
 use native.Mathlib.Omega.{arith}
 use native.Mathlib.Nat.{mul-assoc}
 use denote.Ref.{now}
@@ -20,9 +19,9 @@ use Rattle.std.proofs.shelf.Counted.{length-map-counting, getD-map-counting}
 use Rattle.std.proofs.shelf.Lists.{drop-drop, drop-all, drop-more, getD-replicate, take-all}
 use Rattle.page_format.specs.Bits.{le-number, packed-value}
 use Rattle.key_pages.specs.Meaning.{Read-run, repeats, packs, run-length, run-values, unpacked}
-use Rattle.key_pages.specs.Reading.{a-run, no-run, walk, walk-on}
+use Rattle.key_pages.specs.Reading.{walk, walk-on}
 use Rattle.key_pages.specs.Views.{view, whole, holds-whole}
-use Rattle.key_pages.specs.Coming.{Gives, next-step, Behind, Advanced, walk-from, runs-to-come, held-values, values-to-come, keys-to-come, In-use, Using}
+use Rattle.key_pages.specs.Coming.{Gives, Behind, Advanced, walk-from, runs-to-come, held-values, values-to-come, keys-to-come, In-use, Using}
 use Rattle.key_pages.specs.declared.run.Run.{Run}
 use Rattle.key_pages.specs.declared.cursors.Runs.{Runs}
 use Rattle.key_pages.specs.declared.cursors.Keys.{Keys}

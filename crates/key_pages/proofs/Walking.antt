@@ -1,12 +1,11 @@
 -- The walk over a page agrees with what the page means, both ways.
 use Prim.Native.Nat.{ℕ, zero, suc, _+_, _-_, _*_, _/_, _%_, _≤_, _<_}
 use mathlib.Core.List.{List, [], _∷_}
-use mathlib.Core.Bool.{Bool, true, false, cond}
 use mathlib.Core.Path.{_≡_, refl, sym, ap, _∙_, subst}
-use mathlib.Core.Logic.{_⊎_, inl, inr}
+use mathlib.Core.Logic.{inl, inr}
 use native.Mathlib.Omega.{arith}
-use lib.Dec.{eqb, ltb, leb}
-use lib.ListN.{length, take, drop}
+use lib.Dec.{eqb, ltb}
+use lib.ListN.{length, drop}
 use Rattle.std.specs.declared.option.Option.{Option}
 use Rattle.std.specs.declared.option.Option.the-variants.{Some, None}
 use Rattle.std.specs.declared.result.Result.{Result}
@@ -16,7 +15,7 @@ use Rattle.page_format.specs.Bits.{read-varint, bytes-for}
 use Rattle.page_format.specs.Limits.{key-width}
 use Rattle.page_format.specs.declared.field.Field.{Field}
 use Rattle.page_format.specs.declared.field.BadField.{BadField}
-use Rattle.key_pages.specs.Meaning.{Read-run, repeats, packs, run-length, Header, Run-at, a-repeat, a-packed, Runs-of, no-more, one-more, Wrong-run, no-header, empty-run, too-many, cut-value, too-long, cut-groups, Wrong-at, left-over, here, later, Means, means, Malformed, no-width, wide, wrong, most-values}
+use Rattle.key_pages.specs.Meaning.{Read-run, run-length, Header, Run-at, a-repeat, a-packed, Runs-of, no-more, one-more, Wrong-run, no-header, empty-run, too-many, cut-value, too-long, cut-groups, Wrong-at, left-over, here, later, Means, means, Malformed, no-width, wide, wrong, most-values}
 use Rattle.key_pages.specs.Reading.{Step, a-run, no-run, repeat-step, packed-step, header-step, field-step, read-run, Walk, walk-end, walk-on, walk-step, walk-by, walk-in, walk, page-walk}
 
 -- what one step says of the bytes

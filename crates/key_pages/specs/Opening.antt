@@ -4,6 +4,7 @@ use mathlib.Core.List.{List}
 use mathlib.Core.Logic.{_⊎_}
 use mathlib.Core.Path.{_≡_}
 use denote.Ref.{now}
+use lib.ListN.{length}
 use Rattle.std.specs.shelf.Lists.{All}
 use Rattle.page_format.specs.Faults.{Numbered}
 use Rattle.page_format.specs.Limits.{page-values, most-entries}
@@ -35,9 +36,10 @@ pub record Opened (page : List ℕ) (count entries : ℕ) (p : KeyPage) : Type 0
   pub entries-is : p .entries ≡ entries
   pub accepted : (w : ℕ) × (runs : List Read-run) × Accepted page count entries w runs
 
--- a page with a count stands for one thing, or is malformed at one place
+-- a page with a count stands for one thing, which has so many keys, or is malformed at one place
 pub record Decided (page : List ℕ) (count : ℕ) : Type 0 where
   pub either : ((w : ℕ) × (runs : List Read-run) × Means page count w runs) ⊎ ((p : ℕ) × Malformed page count p)
   pub never-both : (w : ℕ) (runs : List Read-run) (p : ℕ) → Means page count w runs → Malformed page count p → ⊥
   pub one-meaning : (v w : ℕ) (rs runs : List Read-run) → Means page count v rs → Means page count w runs → (v ≡ w) × (rs ≡ runs)
   pub one-place : (p q : ℕ) → Malformed page count p → Malformed page count q → p ≡ q
+  pub key-count : (w : ℕ) (runs : List Read-run) → Means page count w runs → length (keys-of w count runs) ≡ count

@@ -1,5 +1,4 @@
 // Keys, one by one.
-ghost use mathlib.Core.Path.{_≡_};
 ghost use Rattle.key_pages.specs.Coming.{Gives, In-use, Outside, keys-to-come};
 use crate::cursors::Keys;
 use crate::iterators::KeysIterator;

@@ -26,6 +26,7 @@ pub struct KeyPage<'a> {
     entries: usize,
 }
 
+// A fault of this layer.
 pub(crate) fn rejected(number: Rejection, place: usize) -> Fault
     ensures fault { λ r. ⌜ r ≡ record { number = number; layer = Reader; place = place } ⌝ }
 {
@@ -57,7 +58,7 @@ fn first_wrong(page: &[u8], count: usize) -> Option<usize>
 }
 
 impl<'a> KeyPage<'a> {
-    // Takes a page of so many keys into a dictionary of so many entries, if it is one.
+    // Takes a page as one of so many keys to so many entries, or says why it is none.
     pub fn open(page: &'a [u8], count: usize, entries: usize) -> Result<KeyPage<'a>, Fault>
         ensures accepted { λ r. ⌜ made r (λ p. Opened (now (page .entry)) count entries p) ⌝ }
         ensures complete { λ r. ⌜ ((w : ℕ) (runs : List Read-run) → Accepted (now (page .entry)) count entries w runs → isOk r ≡ true) ⌝ }
@@ -95,6 +96,7 @@ impl<'a> KeyPage<'a> {
         self.count
     }
 
+    // The runs, one by one.
     pub fn runs(&self) -> Runs<'a>
         ensures runs { λ r. ⌜ ((w : ℕ) (runs : List Read-run) → Means (now (now (self .entry) .page)) (now (self .entry) .count) w runs → runs-to-come r ≡ runs) ⌝ }
         ensures width { λ r. ⌜ ((w : ℕ) (runs : List Read-run) → Means (now (now (self .entry) .page)) (now (self .entry) .count) w runs → r .width ≡ w) ⌝ }
@@ -110,6 +112,7 @@ impl<'a> KeyPage<'a> {
         Runs::start(self.page, width, self.count)
     }
 
+    // The keys, one by one.
     pub fn keys(&self) -> Keys<'a>
         ensures keys { λ r. ⌜ ((w : ℕ) (runs : List Read-run) → Means (now (now (self .entry) .page)) (now (self .entry) .count) w runs → keys-to-come r ≡ keys-of w (now (self .entry) .count) runs) ⌝ }
     {

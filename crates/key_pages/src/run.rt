@@ -1,4 +1,4 @@
-// A run of a key page. It borrows its bytes from the page.
+// A run of a key page. It borrows its bytes from the page, and `place` is where it begins there.
 ghost use mathlib.Core.Bool.{true};
 ghost use mathlib.Core.Path.{_≡_};
 ghost use Prim.Native.Nat.{_+_, _*_, _<_, _≤_};

@@ -18,7 +18,7 @@ use page_format::Fault;
 use page_format::MAX_ENTRIES;
 use page_format::Rejection;
 
-// Lists the keys in order of first use.
+// Lists the keys in order of first use. Those of a page that was opened are all below the limit.
 fn list_keys(keys: Keys<'_>, used: &mut [u32]) -> usize
     requires room { ⌜ most-entries ≤ length (now used) ⌝ }
     ensures once { λ r. ⌜ (All (λ key. key < most-entries) (keys-to-come (keys .entry)) → Lists-once (keys-to-come (keys .entry)) (now (used .entry)) r (now (used .exit))) ⌝ }

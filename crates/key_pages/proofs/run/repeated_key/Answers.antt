@@ -1,8 +1,7 @@
-use mathlib.Core.Path.{_≡_, refl, sym, ap, _∙_}
+use mathlib.Core.Path.{_≡_, ap, _∙_}
 use Prim.Native.Nat.{_<_, _^_}
 use native.Mathlib.Omega.{arith}
 use Rattle.std.specs.Results.{isOk}
-use Rattle.std.specs.declared.result.Result.the-variants.{Ok, Err}
 use Rattle.page_format.specs.Bits.{le-number}
 use Rattle.key_pages.proofs.Fields.{le-reads, le-fits}
 use Rattle.key_pages.proofs.run.repeated_key.Needs as need

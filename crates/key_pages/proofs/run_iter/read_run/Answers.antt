@@ -1,5 +1,4 @@
-use Prim.Native.Nat.{_/_, _≤_}
-use mathlib.Core.Path.{_≡_, sym, _∙_, subst}
+use mathlib.Core.Path.{sym, _∙_, subst}
 use native.Mathlib.Omega.{arith}
 use Rattle.key_pages.specs.Meaning.{no-header, empty-run}
 use Rattle.key_pages.specs.Coming.{Read-as}

@@ -1,9 +1,7 @@
 use Prim.Native.Nat.{_<_}
-use mathlib.Core.List.{[], _∷_}
 use mathlib.Core.Logic.{inl, inr}
 use mathlib.Core.Path.{ap, subst}
 use native.Mathlib.Omega.{arith}
-use lib.ListN.{length}
 use Rattle.page_format.specs.Limits.{most-entries}
 use Rattle.key_pages.specs.Coming.{keys-to-come}
 use Rattle.key_pages.proofs.Noting.{Noted, starts, skips, adds, room, ends, few-marks}
