@@ -9,6 +9,7 @@ ghost use Rattle.key_pages.specs.Views.{view};
 ghost use Rattle.page_report.specs.Lines.{complaint-line, fault-line, run-text, run-line, list-line, same-line};
 use key_pages::Run;
 use key_pages::Runs;
+use key_pages::RunsIterator;
 use page_format::Fault;
 use page_text::Complaint;
 use page_text::push_hex;
@@ -67,10 +68,10 @@ fn run_line(heap: Global, run: Run<'_>) -> Result<String, AllocError>
 }
 
 // A line for each run that is to come.
-pub(crate) fn push_runs(out: &mut String, mut runs: Runs<'_>) -> Result<(), AllocError>
+pub(crate) fn push_runs(out: &mut String, runs: Runs<'_>) -> Result<(), AllocError>
     ensures { λ r. ⌜ made r (λ _. string-bytes (now (out .exit)) ≡ string-bytes (now (out .entry)) ++ joined run-line (runs-to-come (runs .entry))) ⌝ }
 {
-    while let Some(run) = runs.next() {
+    for run in runs {
         let line = run_line(out.allocator(), run)?;
         out.push_str(line.as_str())?;
     }

@@ -16,6 +16,7 @@ use crate::lines::push_runs;
 use crate::lines::push_same;
 use key_pages::KeyPage;
 use key_pages::Keys;
+use key_pages::KeysIterator;
 use key_pages::key_width;
 use key_pages::max_buffer_size;
 use key_pages::write_key_page;
@@ -24,11 +25,11 @@ use std::alloc::AllocError;
 use std::alloc::Global;
 
 // The keys that are to come.
-fn collect_keys(heap: Global, mut keys: Keys<'_>) -> Result<Vec<u32>, AllocError>
+fn collect_keys(heap: Global, keys: Keys<'_>) -> Result<Vec<u32>, AllocError>
     ensures { λ r. ⌜ made r (λ v. vec-items v ≡ keys-to-come (keys .entry)) ⌝ }
 {
     let mut list = Vec::new(heap);
-    while let Some(key) = keys.next() {
+    for key in keys {
         list.push(key)?;
     }
     Ok(list)

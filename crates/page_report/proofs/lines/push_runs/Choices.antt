@@ -1,6 +1,5 @@
 use mathlib.Core.Path.{_≡_}
 use mathlib.Core.List.{_++_}
-use lib.ListN.{length}
 use Rattle.std.specs.Of.String.{string-bytes}
 use Rattle.std.specs.shelf.Lists.{joined}
 use Rattle.key_pages.specs.Coming.{runs-to-come}
@@ -9,7 +8,4 @@ use Rattle.page_report.proofs.lines.push_runs.Given as given
 
 -- what is written and what is to come are the whole
 abbrev pub Inv-loop-run : given.InvT-loop-run
-Inv-loop-run l = string-bytes (l .out) ++ joined run-line (runs-to-come (l .runs)) ≡ string-bytes (l .entry .out) ++ joined run-line (runs-to-come (l .entry .runs))
-
-abbrev pub μ-loop-run : given.MeasureT-loop-run
-μ-loop-run l = length (runs-to-come (l .runs))
+Inv-loop-run l = string-bytes (l .out) ++ joined run-line (runs-to-come (l .run-iterator)) ≡ string-bytes (l .entry .out) ++ joined run-line (runs-to-come (l .runs))
