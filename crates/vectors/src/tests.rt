@@ -5,15 +5,16 @@ use std::test::*;
 #[test]
 fn alternating(rt: LibcRuntime) -> Result<(), Fail> {
     let heap = rt.alloc();
-    let mut keys = [0u32; 505];
-    for i in 0..505 {
-        keys[i] = (i % 2) as u32;
+    let mut keys: Vec<u32> = Vec::new(heap);
+    for i in 0..504u32 {
+        keys.push(i % 2)?;
     }
     let mut page = String::from_str(heap, "keys :017F")?;
     for _ in 0..63 {
         page.push_str("AA")?;
     }
-    check(page_line(heap, 1, &keys[0..504])?.as_str() == page.as_str())?;
+    check(page_line(heap, 1, keys.as_slice())?.as_str() == page.as_str())?;
+    keys.push(0)?;
     page.push_str("0200")?;
-    check(page_line(heap, 1, &keys)?.as_str() == page.as_str())
+    check(page_line(heap, 1, keys.as_slice())?.as_str() == page.as_str())
 }
