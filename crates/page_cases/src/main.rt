@@ -1,4 +1,4 @@
-// Compares the reports on good, damaged and nonsensical pages with what an independent reader expects of them.
+// Compares the reports on good, damaged and nonsensical pages with what a second reader expects of them.
 // The input has, for each, the lines of the request and then the lines of the report, each behind `= `.
 use page_report::report;
 use std::error::AnyError;
