@@ -1,4 +1,6 @@
 // Arrays of byte strings in Arrow's layouts, which reject unfit memory when they are opened.
+#![tactic(auto)]
+
 mod accessor;
 mod binary;
 mod dictionary;

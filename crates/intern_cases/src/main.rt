@@ -1,5 +1,7 @@
 // Compares what hashes, arrays and the interner answer with recorded answers, and interns some thousands of values under each hash.
 // The input has two lines for each case: a command, and `= ` with the answer that is expected.
+#![tactic(auto)]
+
 mod gathering;
 mod hashing;
 mod opening;

@@ -1,4 +1,6 @@
 // A dictionary of byte strings that never holds a value twice, whatever the hash does.
+#![tactic(auto)]
+
 mod entry;
 mod hash;
 mod interner;

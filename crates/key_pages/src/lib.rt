@@ -1,4 +1,6 @@
 // Key pages: dictionary keys as Parquet's hybrid of repeat and packed runs, written and read.
+#![tactic(auto)]
+
 mod cursors;
 mod encoder;
 mod iterators;

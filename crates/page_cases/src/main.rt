@@ -1,5 +1,7 @@
 // Compares the reports on good, damaged and nonsensical pages with what a second reader expects of them.
 // The input has, for each, the lines of the request and then the lines of the report, each behind `= `.
+#![tactic(auto)]
+
 use page_report::report;
 use std::io::{BufRead, BufReader};
 

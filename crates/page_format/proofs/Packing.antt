@@ -1,5 +1,5 @@
 -- Packed rows: size, steps of the packing loop, and reading back.
-use Rattle.std.proofs.Common.{◌≡◌, ℕ, zero, suc, ◌+◌, ◌-◌, ◌*◌, ◌/◌, ◌%◌, ◌^◌, ◌<◌, ◌≤◌, List, [], ◌∷◌, ◌++◌, map, length, get_or, take, drop, set, sym, refl, ap, ◌∙◌, subst, ap₂, mul_assoc, mul_comm, add-mul, mul-one, mul-add, arith, pow_mono}
+use Rattle.std.proofs.Common.{◌≡◌, ℕ, zero, suc, ◌+◌, ◌-◌, ◌*◌, ◌/◌, ◌%◌, ◌^◌, ◌<◌, ◌≤◌, List, [], ◌∷◌, ◌++◌, length, get_or, take, drop, sym, refl, ap, ◌∙◌, subst, ap₂, mul_assoc, mul_comm, add-mul, mul-one, mul-add, arith, pow_mono}
 use native.Mathlib.Nat.{add-mul-mod_self_left}
 use lib.Bits.{bit_or}
 use Rattle.std.proofs.lemmas.List.{append_assoc, drop_more, drop_all, length-map}

@@ -1,10 +1,10 @@
 -- A PLAIN page has one reading at most, and is as long as the forms of its values.
-use Rattle.std.proofs.Common.{◌≡◌, ℕ, suc, ◌+◌, ◌*◌, ◌^◌, ◌<◌, List, [], ◌∷◌, ◌++◌, length, take, drop, sum_by, sym, refl, ap, ◌∙◌, arith}
-use Rattle.std.specs.List.{flat_map, AllByRecursion as All}
+use Rattle.std.proofs.Common.{◌≡◌, ◌+◌, List, [], ◌∷◌, ◌++◌, length, take, drop, sum_by, sym, refl, ap, ◌∙◌, arith}
+use Rattle.std.specs.List.{AllByRecursion as All}
 use Rattle.std.proofs.lemmas.List.{append_assoc, length-append, take_at, drop_at}
 use Rattle.std.proofs.lemmas.List.Sums.{sum_by-cons}
 use Rattle.page_format.specs.Bits.{le_bytes, le_number}
-use Rattle.page_format.specs.Plain.{Bytes, PlainValue, plain_head, plain_form, plain_page, ReadsPlain, OnePlainReading}
+use Rattle.page_format.specs.Plain.{Bytes, PlainValue, plain_form, plain_page, OnePlainReading}
 use Rattle.page_format.specs.declared.column.Column.{Column}
 use Rattle.page_format.specs.declared.column.Column.TheVariants.{ByteStrings, Fixed}
 use Rattle.page_format.proofs.Endian.{length-le_bytes, le_reads}

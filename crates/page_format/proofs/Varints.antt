@@ -1,10 +1,10 @@
 -- Varints: steps, lengths, and reading back.
-use Rattle.std.proofs.Common.{◌≡◌, ℕ, zero, suc, ◌+◌, ◌-◌, ◌*◌, ◌/◌, ◌%◌, ◌^◌, ◌<◌, ◌≤◌, Bool, true, false, cond, eqb, ltb, leb, ◌⊎◌, List, [], ◌∷◌, ◌++◌, length, get_or, take, drop, set, Ok, Err, sym, refl, ap, ◌∙◌, subst, inl, inr, mul_left_comm, arith, length-append, pow_mono}
+use Rattle.std.proofs.Common.{◌≡◌, ℕ, zero, suc, ◌+◌, ◌*◌, ◌/◌, ◌%◌, ◌^◌, ◌<◌, ◌≤◌, true, false, ltb, leb, List, [], ◌∷◌, ◌++◌, length, get_or, take, Ok, Err, sym, refl, ap, ◌∙◌, subst, inl, inr, mul_left_comm, arith, length-append, pow_mono}
 use Rattle.std.proofs.lemmas.List.{take_at}
 use Rattle.std.proofs.lemmas.Nat.{pow-add, mul-le, shl_whole}
-use Rattle.std.proofs.lemmas.Bool.{cases_Bool, cases_lt, ltb-true, ltb-false, lt-ltb, le-ltb, le-leb, lt-leb, leb-true, leb-false}
+use Rattle.std.proofs.lemmas.Bool.{cases_Bool, cases_lt, ltb-false, lt-ltb, le-ltb, le-leb, lt-leb}
 use Rattle.page_format.specs.declared.field.BadField.TheVariants.{Cut, TooLong, TooLarge}
-use Rattle.page_format.specs.Bits.{varint_in, varint, continued, sevens, varint_bytes, read_varint}
+use Rattle.page_format.specs.Bits.{varint_in, varint, continued, sevens, read_varint}
 use Rattle.page_format.specs.Laws.{VarintReadsBack, VarintLength}
 
 varint_none : (m : ℕ) → varint_in m 0 ≡ 0 ∷ []

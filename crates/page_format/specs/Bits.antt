@@ -1,6 +1,6 @@
 -- The bit-level fields of a page, from Parquet's Encodings.md: little-endian numbers, varints, zigzag, packed rows.
 -- A byte is a number below 256, and every definition is over the width where there is one.
-use Rattle.std.specs.Prelude.{◌≡◌, ℕ, zero, suc, ◌+◌, ◌-◌, ◌*◌, ◌/◌, ◌%◌, ◌^◌, ◌<◌, ◌≤◌, Bool, cond, List, [], ◌∷◌, map, length, take, ℤ, pos, negsuc, Ok, Err, Result, ◌==◌, nat_le, nat_lt}
+use Rattle.std.specs.Prelude.{ℕ, zero, suc, ◌+◌, ◌*◌, ◌/◌, ◌%◌, ◌^◌, ◌<◌, ◌≤◌, cond, List, [], ◌∷◌, map, length, take, ℤ, pos, negsuc, Ok, Err, Result, ◌==◌, nat_le, nat_lt}
 use Rattle.page_format.specs.declared.field.Field.{Field}
 use Rattle.page_format.specs.declared.field.BadField.{BadField}
 use Rattle.page_format.specs.declared.field.BadField.TheVariants.{Cut, TooLong, TooLarge}

@@ -1,5 +1,5 @@
 -- What is written reads back, over every width.
-use Rattle.std.specs.Prelude.{◌≡◌, ℕ, ◌+◌, ◌*◌, ◌%◌, ◌^◌, ◌<◌, ◌≤◌, List, ◌++◌, length, ℤ, Ok, slice_index}
+use Rattle.std.specs.Prelude.{◌≡◌, ℕ, ◌*◌, ◌%◌, ◌^◌, ◌<◌, ◌≤◌, List, ◌++◌, length, ℤ, Ok, slice_index}
 use Rattle.page_format.specs.Bits.{varint, read_varint, varint_bytes, le_bytes, le_number, packed_bytes, packed_value, low_bits, zigzagged, unzigzagged, bytes_for}
 
 abbrev pub VarintReadsBack : Type 0

@@ -1,6 +1,6 @@
 -- PLAIN, from Parquet's Encodings.md: a byte string is its length in four bytes, the lowest first, and then its bytes;
 -- a value of a fixed width is its bytes. A page is its values one after another, and its reader is told how many.
-use Rattle.std.specs.Prelude.{◌≡◌, ℕ, ◌+◌, ◌^◌, ◌<◌, cond, List, [], ◌∷◌, ◌++◌, length, ◌==◌, nat_lt}
+use Rattle.std.specs.Prelude.{◌≡◌, ℕ, ◌^◌, ◌<◌, cond, List, [], ◌++◌, length, ◌==◌, nat_lt}
 use Rattle.std.specs.List.{flat_map, AllByRecursion as All}
 use Rattle.page_format.specs.Bits.{le_bytes}
 use Rattle.page_format.specs.Faults.{Told, answered, rejected}

@@ -1,4 +1,6 @@
 // What every layer shares: faults, limits, the encodings' numbers, and the bit-level fields of a page.
+#![tactic(auto)]
+
 mod bits;
 mod column;
 mod encoding;

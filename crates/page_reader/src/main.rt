@@ -1,4 +1,6 @@
 // Reads a key page as text from standard input, and prints what is in it.
+#![tactic(auto)]
+
 use page_report::report;
 use std::io;
 use std::io::Read;

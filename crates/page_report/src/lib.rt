@@ -1,4 +1,6 @@
 // The report on a key page that came as text: the library behind `page_reader`.
+#![tactic(auto)]
+
 mod lines;
 mod pages;
 

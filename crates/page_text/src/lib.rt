@@ -1,4 +1,6 @@
 // Reads a request of two lines, `page E N :HEX` and `entries M`, and writes its parts as text.
+#![tactic(auto)]
+
 mod reader;
 #[cfg(test)]
 mod tests;

@@ -1,5 +1,7 @@
 // Replays recorded answers of the Rust crate parquet 60.0.0, and prints how many agree.
 // The input has two lines for each: a command, and `= ` with the crate's answer.
+#![tactic(auto)]
+
 mod replay;
 #[cfg(test)]
 mod tests;

@@ -1,4 +1,4 @@
-use Rattle.std.proofs.Common.{◌≡◌, ℕ, suc, ◌+◌, ◌-◌, ◌*◌, ◌/◌, ◌%◌, ◌<◌, ◌≤◌, min, sym, refl, ap, ◌∙◌, subst, inl, inr, add-mul, arith}
+use Rattle.std.proofs.Common.{◌≡◌, ℕ, ◌+◌, ◌*◌, ◌/◌, ◌%◌, ◌<◌, ◌≤◌, min, inl, inr, add-mul, arith}
 use Rattle.std.proofs.lemmas.Nat.{div-add-mod', mod_below, mul-le}
 use Rattle.std.proofs.lemmas.Bool.{cases_eq, cases_lt}
 use Rattle.page_format.specs.Bits.{PartsOf}
@@ -25,4 +25,4 @@ parts a b h =
     ]
 
 pub returns-else-divisor-eq0 : goal.returns-else-divisor-eq0
-returns-else-divisor-eq0 c = record { least = λ h. rw c.div-ceil.ensures (parts c.args.value c.args.divisor h); none = λ h. absurd (c.if-divisor-eq0.false h) }
+returns-else-divisor-eq0 c = record { least = λ h. rw c.div_ceil.ensures (parts c.args.value c.args.divisor h); none = λ h. absurd (c.if-divisor-eq0.false h) }

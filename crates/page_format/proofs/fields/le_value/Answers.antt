@@ -1,5 +1,4 @@
-use Rattle.std.proofs.Common.{◌≡◌, ℕ, ◌+◌, ◌-◌, ◌*◌, ◌%◌, ◌^◌, ◌<◌, ◌≤◌, length, get_or, drop, sym, refl, ap, ◌∙◌, arith}
-use lib.Bits.{bit_or}
+use Rattle.std.proofs.Common.{◌≡◌, ◌-◌, length, sym, ap, arith}
 use Rattle.std.proofs.lemmas.List.{drop_all}
 use Rattle.page_format.specs.Bits.{le_number}
 use Rattle.page_format.proofs.Endian.{value_turn}

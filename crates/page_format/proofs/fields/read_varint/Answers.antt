@@ -1,6 +1,6 @@
-use Rattle.std.proofs.Common.{◌≡◌, ℕ, ◌+◌, ◌*◌, ◌%◌, ◌^◌, ◌<◌, ◌≤◌, length, get_or, take, sym, refl, ap, ◌∙◌, arith}
-use Rattle.page_format.specs.Bits.{sevens, continued}
-use Rattle.page_format.proofs.Varints.{continued_le, continued_more, continued_stop, sevens_more, seven_more, read_long, read_cut, read_whole, read_large}
+use Rattle.std.proofs.Common.{sym, refl, arith}
+use Rattle.page_format.specs.Bits.{sevens}
+use Rattle.page_format.proofs.Varints.{continued_le, continued_more, continued_stop, seven_more, read_long, read_cut, read_whole, read_large}
 use Rattle.page_format.proofs.fields.read_varint.Goals as goal
 
 pub loop-len-init : goal.loop-len-init

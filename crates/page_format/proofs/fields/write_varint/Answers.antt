@@ -1,14 +1,14 @@
-use Rattle.std.proofs.Common.{◌≡◌, sym, refl, ap, ◌∙◌, arith}
+use Rattle.std.proofs.Common.{sym, refl, ◌∙◌, arith}
 use Rattle.std.proofs.lemmas.Bool.{leb-false}
 use Rattle.page_format.proofs.Varints.{varint_reads_back, varint_length}
 use Rattle.page_format.proofs.fields.write_varint.Goals as goal
 
-pub returns-then-not-has-room : goal.returns-then-not-has-room
-returns-then-not-has-room c = record {
-  written = ((λ _ room. omega (arith, c.varint-len.ensures, leb-false _ _ (sym c.has-room.ensures ∙ c.if-not-has-room.true))), refl);
-  reads-back = varint_reads_back;
+pub returns-then-not-has_room : goal.returns-then-not-has_room
+returns-then-not-has_room c = record {
+  written = ((λ _ room. omega (arith, c.varint_len.ensures, leb-false _ _ (sym c.has_room.ensures ∙ c.if-not-has_room.true))), refl);
+  reads_back = varint_reads_back;
   short = varint_length;
 }
 
 pub returns : goal.returns
-returns c = record { written = (tt, c.put-varint.ensures); reads-back = varint_reads_back; short = varint_length }
+returns c = record { written = (tt, c.put_varint.ensures); reads_back = varint_reads_back; short = varint_length }
