@@ -1,1 +1,5 @@
+pub mod Numbering
 pub mod Deciding
+pub mod Cutting
+pub mod Stepping
+pub mod Naming

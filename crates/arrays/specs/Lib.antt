@@ -4,7 +4,3 @@ pub mod Opening
 pub mod Offsets
 pub mod Widths
 pub mod Keys
-pub mod Cutting
-pub mod Numbering
-pub mod Naming
-pub mod Stepping

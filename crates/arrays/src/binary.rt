@@ -1,8 +1,9 @@
 // An array of byte strings under offsets of either width: value i stands from offset i to offset i + 1.
 ghost use Rattle.std.specs.Prelude.{◌≡◌, IfOk, vec_len};
+ghost use Rattle.std.proofs.Common.{arith};
+ghost use Rattle.std.proofs.lemmas.List.FromFn.{length-map-range_with_len};
 ghost use Rattle.arrays.specs.Offsets.{numbers, offset_rules, offset_values};
 ghost use Rattle.arrays.specs.Opening.{Within, Whole, AllKeep, Answers};
-ghost use Rattle.arrays.specs.Cutting.{few_offset_values};
 
 use crate::accessor::ArrayAccessor;
 use crate::offset_buffer::Offsets;
@@ -48,7 +49,7 @@ impl BinaryArray {
 impl ArrayAccessor for BinaryArray {
     ghost values = { λ s. offset_values (numbers s.offsets) s.bytes.items };
 
-    ghost few = { λ x. few_offset_values (numbers x.offsets) x.bytes.items (vec_len x.bytes) x.limits };
+    ghost few = { λ x. Prim.grind (arith, length-map-range_with_len) };
 
     fn len(&self) -> usize {
         self.offsets.len() - 1

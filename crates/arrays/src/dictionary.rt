@@ -1,9 +1,10 @@
 // An array of keys to the values of another array, which may be of any kind.
 ghost use Rattle.std.specs.Prelude.{◌≡◌, length, IfOk, Decides};
+ghost use Rattle.std.proofs.Common.{arith};
+ghost use Rattle.std.proofs.lemmas.List.{length-map};
 ghost use Rattle.arrays.specs.Keys.{FewKeys, KeyNames, key_rules, key_values};
 ghost use Rattle.arrays.specs.Numbers.{FromZero};
 ghost use Rattle.arrays.specs.Opening.{Answers, FindsBroken};
-ghost use Rattle.arrays.specs.Naming.{few_key_values};
 
 use crate::accessor::ArrayAccessor;
 use crate::faults::rejected;
@@ -77,7 +78,7 @@ impl<V: ArrayAccessor + Drop> DictionaryArray<V> {
 impl<V: ArrayAccessor> ArrayAccessor for DictionaryArray<V> {
     ghost values = { λ s. key_values (V.ArrayAccessor.values s.values) s.keys.items };
 
-    ghost few = { λ x. few_key_values (V.ArrayAccessor.values x.values) x.keys.items x.limits };
+    ghost few = { λ x. Prim.grind (arith, length-map) };
 
     fn len(&self) -> usize {
         self.keys.len()

@@ -1,9 +1,9 @@
 // An array of byte strings of one width, which stand one after another.
-ghost use Rattle.std.specs.Prelude.{◌≡◌, ℕ, IfOk, vec_len, Decides};
-ghost use Rattle.std.proofs.Common.{subst};
+ghost use Rattle.std.specs.Prelude.{◌≡◌, IfOk, vec_len, Decides};
+ghost use Rattle.std.proofs.Common.{arith};
+ghost use Rattle.std.proofs.lemmas.List.FromFn.{length-map-range_with_len};
 ghost use Rattle.arrays.specs.Opening.{Within, Whole, Answers};
 ghost use Rattle.arrays.specs.Widths.{AboveWidth, width_rules, width_values};
-ghost use Rattle.arrays.specs.Stepping.{few_width_values};
 
 use crate::accessor::ArrayAccessor;
 use crate::faults::rejected;
@@ -64,7 +64,7 @@ impl FixedSizeBinaryArray {
 impl ArrayAccessor for FixedSizeBinaryArray {
     ghost values = { λ s. width_values s.width s.bytes.items };
 
-    ghost few = { λ x. few_width_values x.width x.bytes.items (subst (λ (n : ℕ). Within (width_rules x.width n)) x.bytes.ok.0 x.limits) (subst (λ (n : ℕ). Whole (width_rules x.width n)) x.bytes.ok.0 x.whole) };
+    ghost few = { λ x. Prim.grind (arith, length-map-range_with_len) };
 
     fn len(&self) -> usize {
         self.bytes.len() / self.width

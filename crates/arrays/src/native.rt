@@ -28,7 +28,7 @@ impl ArrowNativeType for i64 {
 
 // The place that number j names, if there is one.
 pub(crate) fn place_at<N: ArrowNativeType>(numbers: &[N], j: usize) -> Option<usize>
-    ensures place { NamedAt (map number numbers.now) j result }
+    ensures place { NamedAt (map N.number numbers.now) j result }
 {
     numbers.get(j)?.to_usize()
 }

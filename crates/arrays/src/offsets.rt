@@ -11,7 +11,7 @@ use page_format::{Fault, MAX_ARRAY_VALUES, MAX_DATA_BYTES, Rejection};
 
 // The place that an offset names, if that is from `low` to `high`.
 fn place_between<O: ArrowNativeType>(offset: O, low: usize, high: usize) -> Option<usize>
-    ensures passes { Passes (number offset) low high result }
+    ensures passes { Passes (O.number offset) low high result }
 {
     let place = offset.to_usize()?;
     if low <= place && place <= high {
@@ -23,7 +23,7 @@ fn place_between<O: ArrowNativeType>(offset: O, low: usize, high: usize) -> Opti
 
 // The place of the first offset that breaks its rule.
 fn first_broken<O: ArrowNativeType>(offsets: &[O], bytes: usize) -> Option<usize>
-    ensures first { FindsBroken (offset_rules (map number offsets.now) bytes) result }
+    ensures first { FindsBroken (offset_rules (map O.number offsets.now) bytes) result }
 {
     let mut before = 0;
     for (j, offset) in offsets.iter().enumerate() {
@@ -37,7 +37,7 @@ fn first_broken<O: ArrowNativeType>(offsets: &[O], bytes: usize) -> Option<usize
 
 // Whether offsets keep all rules over so many bytes of data.
 fn check_each<O: ArrowNativeType>(offsets: &[O], bytes: usize) -> Result<(), Fault>
-    ensures answers { Answers (offset_rules (map number offsets.now) bytes) result }
+    ensures answers { Answers (offset_rules (map O.number offsets.now) bytes) result }
 {
     if offsets.len() > MAX_ARRAY_VALUES + 1 || bytes > MAX_DATA_BYTES {
         return Err(rejected(Rejection::AboveLimit, 0));
@@ -57,8 +57,8 @@ fn value_between<'a, O: ArrowNativeType>(
     bytes: &'a [u8],
     i: usize,
 ) -> Option<&'a [u8]>
-    requires fit { Fit (offset_rules (map number offsets.now) (length bytes.now)) }
-    ensures value { ValueAt (offset_values (map number offsets.now) bytes.now) i result }
+    requires fit { Fit (offset_rules (map O.number offsets.now) (length bytes.now)) }
+    ensures value { ValueAt (offset_values (map O.number offsets.now) bytes.now) i result }
 {
     let from = place_at(offsets, i)?;
     let to = place_at(offsets, i + 1)?;

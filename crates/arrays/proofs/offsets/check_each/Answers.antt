@@ -13,12 +13,12 @@ returns-then-offsets g c =
       answers = answers_above (offset_rules os c.args.bytes) _ (elim c.then-offsets.either [ inl h ↦ inl (omega arith) | inr h ↦ inr (omega (arith, h.1)) ]) c.rejected.ensures.fault;
     }
 
-pub returns-then-is-empty : goal.returns-then-is-empty
-returns-then-is-empty g c =
+pub returns-then-is_empty : goal.returns-then-is_empty
+returns-then-is_empty g c =
     let os = map g.O.ArrowNativeType.number c.args.offsets.now in
     let same = length-map c.args.offsets.now g.O.ArrowNativeType.number in
     record {
-      answers = answers_malformed (offset_rules os c.args.bytes) _ (⊎_elim (λ h. omega arith) (λ h. omega arith)) (omega (arith, eqb-true _ _ (sym c.if-is-empty.ensures))) c.rejected-then-is-empty.ensures.fault;
+      answers = answers_malformed (offset_rules os c.args.bytes) _ (⊎_elim (λ h. omega arith) (λ h. omega arith)) (omega (arith, eqb-true _ _ (sym c.if-is_empty.ensures))) c.rejected-then-is_empty.ensures.fault;
     }
 
 pub returns-in-Some : goal.returns-in-Some
@@ -26,7 +26,7 @@ returns-in-Some g c =
     let os = map g.O.ArrowNativeType.number c.args.offsets.now in
     let same = length-map c.args.offsets.now g.O.ArrowNativeType.number in
     record {
-      answers = answers_broken (offset_rules os c.args.bytes) _ c.in-Some.place (⊎_elim (λ h. omega arith) (λ h. omega arith)) (λ h. eqb-false _ _ (sym c.if-is-empty.ensures) (omega arith)) c.in-Some.ensures.first c.rejected-in-Some.ensures.fault;
+      answers = answers_broken (offset_rules os c.args.bytes) _ c.in-Some.place (⊎_elim (λ h. omega arith) (λ h. omega arith)) (λ h. eqb-false _ _ (sym c.if-is_empty.ensures) (omega arith)) c.in-Some.ensures.first c.rejected-in-Some.ensures.fault;
     }
 
 pub returns : goal.returns
@@ -37,7 +37,7 @@ returns g c =
       answers = answers_fit (offset_rules os c.args.bytes) tt
           (record {
             limits = ⊎_elim (λ h. omega arith) (λ h. omega arith);
-            whole = λ h. eqb-false _ _ (sym c.if-is-empty.ensures) (omega arith);
-            each = c.in-default.ensures.first;
+            whole = λ h. eqb-false _ _ (sym c.if-is_empty.ensures) (omega arith);
+            each = c.in_default.ensures.first;
           });
     }

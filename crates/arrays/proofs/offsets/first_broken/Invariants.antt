@@ -1,5 +1,5 @@
 use Rattle.std.proofs.Common.{map}
-use Rattle.arrays.specs.Cutting.{Kept}
+use Rattle.arrays.proofs.Cutting.{Kept}
 use Rattle.arrays.proofs.offsets.first_broken.Given as goal
 
 abbrev pub invariant-loop-j : goal.invariant-loop-j

@@ -1,6 +1,6 @@
 use Rattle.std.proofs.Common.{vec_items, arith}
 use Rattle.arrays.specs.Offsets.{numbers}
-use Rattle.arrays.specs.Cutting.{length-offset_values}
+use Rattle.arrays.proofs.Cutting.{length-offset_values}
 use Rattle.arrays.proofs.binary.BinaryArrayArrayAccessor.len.Goals as goal
 
 pub returns : goal.returns

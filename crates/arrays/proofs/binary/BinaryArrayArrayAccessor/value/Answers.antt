@@ -4,8 +4,8 @@ use Rattle.arrays.specs.Opening.{Fit}
 use Rattle.arrays.specs.Values.{ValueAt}
 use Rattle.arrays.proofs.binary.BinaryArrayArrayAccessor.value.Goals as goal
 
-pub value-at-requires : goal.value-at-requires
-value-at-requires c =
+pub value_at-requires : goal.value_at-requires
+value_at-requires c =
     let s = c.args.self.now in
     record {
       fit = subst (λ n. Fit (offset_rules (numbers s.offsets) n)) (sym c.deref.ensures.len) (record { limits = s.limits; whole = s.whole; each = s.each });
@@ -14,5 +14,5 @@ value-at-requires c =
 pub returns : goal.returns
 returns c =
     record {
-      value = subst (λ bytes. ValueAt (offset_values (numbers c.args.self.now.offsets) bytes) c.args.i c.value-at.result) c.deref.ensures.value c.value-at.ensures.value;
+      value = subst (λ bytes. ValueAt (offset_values (numbers c.args.self.now.offsets) bytes) c.args.i c.value_at.result) c.deref.ensures.value c.value_at.ensures.value;
     }

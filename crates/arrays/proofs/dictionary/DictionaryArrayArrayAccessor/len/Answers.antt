@@ -1,5 +1,5 @@
 use Rattle.std.proofs.Common.{vec_items, arith}
-use Rattle.arrays.specs.Naming.{length-key_values}
+use Rattle.arrays.proofs.Naming.{length-key_values}
 use Rattle.arrays.proofs.dictionary.DictionaryArrayArrayAccessor.len.Goals as goal
 
 pub returns : goal.returns

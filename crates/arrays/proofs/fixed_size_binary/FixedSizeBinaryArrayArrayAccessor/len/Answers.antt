@@ -1,5 +1,5 @@
 use Rattle.std.proofs.Common.{ℕ, ◌/◌, vec_items, sym, ap, ◌∙◌}
-use Rattle.arrays.specs.Stepping.{length-width_values}
+use Rattle.arrays.proofs.Stepping.{length-width_values}
 use Rattle.arrays.proofs.fixed_size_binary.FixedSizeBinaryArrayArrayAccessor.len.Goals as goal
 
 pub returns : goal.returns

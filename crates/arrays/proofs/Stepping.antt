@@ -4,10 +4,9 @@ use Rattle.std.proofs.Common.{le-div_iff_mul-le, add-mul, one-mul, arith, inl, i
 use Rattle.std.proofs.lemmas.List.FromFn.{length-map-range_with_len, get_or-map-range_with_len}
 use Rattle.std.proofs.lemmas.Bool.{cases_lt}
 use Rattle.std.specs.List.{between}
-use Rattle.page_format.specs.Limits.{array_values}
-use Rattle.arrays.specs.Opening.{Within, Whole}
+use Rattle.arrays.specs.Opening.{Whole}
 use Rattle.page_format.specs.Plain.{Bytes}
-use Rattle.arrays.specs.Widths.{many, width_rules, width_value, width_values}
+use Rattle.arrays.specs.Widths.{width_rules, width_value, width_values}
 
 -- a width that keeps the rules is not 0
 pub width_positive : (w n : ℕ) → Whole (width_rules w n) → 0 < w
@@ -15,13 +14,6 @@ width_positive w n whole = elim (cases_lt 0 w) [ inl h ↦ h | inr h ↦ absurd 
 
 pub length-width_values : (w : ℕ) (bytes : Bytes) → length (width_values w bytes) ≡ length bytes / w
 length-width_values w bytes = length-map-range_with_len (width_value w bytes) 0 (length bytes / w)
-
-pub few_width_values : (w : ℕ) (bytes : Bytes) → Within (width_rules w (length bytes)) → Whole (width_rules w (length bytes)) → length (width_values w bytes) ≤ array_values
-few_width_values w bytes within whole =
-    elim (cases_lt array_values (length bytes / w)) [
-      | inl h ↦ absurd (within (many (width_positive w (length bytes) whole) h))
-      | inr h ↦ omega (arith, length-width_values w bytes)
-    ]
 
 next : (i w : ℕ) → (i + 1) * w ≡ i * w + w
 next i w = add-mul i 1 w ∙ ap (λ (k : ℕ). i * w + k) (one-mul w)

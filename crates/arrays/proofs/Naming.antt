@@ -4,18 +4,14 @@ use Rattle.std.proofs.Common.{arith, sym, ap, ◌∙◌}
 use Rattle.std.specs.Borrow.{Bor}
 use Rattle.std.proofs.lemmas.List.{length-map, get_or-map, get_or_past}
 use Rattle.std.specs.Option.{unwrap_or}
-use Rattle.page_format.specs.Limits.{array_values}
-use Rattle.arrays.specs.Keys.{FewKeys, key_value, key_values}
+use Rattle.arrays.specs.Keys.{key_value, key_values}
 use Rattle.arrays.specs.Numbers.{number_at, NamedAt, FromZero}
 use Rattle.page_format.specs.Plain.{Bytes}
 use Rattle.arrays.specs.Values.{ValueAt}
-use Rattle.arrays.specs.Numbering.{past}
+use Rattle.arrays.proofs.Numbering.{past}
 
 pub length-key_values : (values : List Bytes) (ks : List ℤ) → length (key_values values ks) ≡ length ks
 length-key_values values ks = length-map ks (key_value values)
-
-pub few_key_values : (values : List Bytes) (ks : List ℤ) → FewKeys ks → length (key_values values ks) ≤ array_values
-few_key_values values ks few = omega (arith, length-key_values values ks)
 
 pub no_key : (values : List Bytes) (ks : List ℤ) (i : ℕ) → FromZero ks → NamedAt ks i None → length (key_values values ks) ≤ i
 no_key values ks i from_zero none = omega (arith, length-key_values values ks, past ks i from_zero none)

@@ -5,11 +5,10 @@ use Rattle.std.proofs.lemmas.List.{length-map}
 use Rattle.std.proofs.lemmas.Bool.{cases_lt}
 use Rattle.std.proofs.lemmas.Int.{ints}
 use Rattle.arrays.specs.Offsets.{OffsetRule, Passes, offset_rules, offset_value, offset_values}
-use Rattle.arrays.specs.Opening.{Keep, Within, FirstBroken, FindsBroken, Fit}
-use Rattle.page_format.specs.Limits.{array_values}
+use Rattle.arrays.specs.Opening.{Keep, FirstBroken, FindsBroken, Fit}
 use Rattle.arrays.specs.Numbers.{number_at, NamedAt, place_of}
 use Rattle.page_format.specs.Plain.{Bytes}
-use Rattle.arrays.specs.Numbering.{number_read, past}
+use Rattle.arrays.proofs.Numbering.{number_read, past}
 use Rattle.std.specs.List.{between}
 use Rattle.std.proofs.lemmas.List.FromFn.{length-map-range_with_len, get_or-map-range_with_len}
 
@@ -82,10 +81,3 @@ one_value os bytes i from to p q =
     let starts : place_of (number_at os i) ≡ from = ap place_of p.1 in
     let ends : place_of (number_at os (i + 1)) ≡ to = ap place_of q.1 in
     (omega (arith, length-offset_values os bytes), sym (at ∙ rw (starts, ends)))
-
-pub few_offset_values : (os : List ℤ) (bytes : Bytes) (n : ℕ) → Within (offset_rules os n) → length (offset_values os bytes) ≤ array_values
-few_offset_values os bytes n within =
-    elim (cases_lt (array_values + 1) (length os)) [
-      | inl h ↦ absurd (within (inl h))
-      | inr h ↦ omega (arith, length-offset_values os bytes)
-    ]
