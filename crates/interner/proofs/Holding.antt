@@ -1,5 +1,5 @@
 -- What the fields of a plain store say of its entries and its memory.
-use Rattle.std.proofs.Common.{◌≡◌, ℕ, ◌≤◌, List, length, sym, arith}
+use Rattle.std.proofs.Common.{◌≡◌, ◌≤◌, List, length, sym, arith}
 use Rattle.page_format.specs.Plain.{Bytes}
 use Rattle.interner.specs.Entries.{Store, in_use, Kept}
 use Rattle.interner.specs.Layouts.{plain_store, stored}

@@ -1,6 +1,6 @@
 -- Entries in PLAIN one after another: what a store of them shows, and what one more entry keeps.
-use Rattle.std.specs.Prelude.{◌≡◌, ℕ, ◌+◌, ◌^◌, ◌<◌, ◌≤◌, true, false, cond, ◌≢◌, List, [], ◌∷◌, ◌++◌, map, length, get_or, take, drop, sum_by, slice_index_or, slice_set, refl}
-use Rattle.std.proofs.Common.{inl, inr, sym, ap, subst, ◌∙◌, arith}
+use Rattle.std.specs.Prelude.{◌≡◌, ℕ, ◌+◌, ◌<◌, ◌≤◌, true, ◌≢◌, List, [], ◌∷◌, ◌++◌, map, length, get_or, take, drop, slice_index_or, slice_set, refl}
+use Rattle.std.proofs.Common.{inl, inr, sym, ap, ◌∙◌, arith}
 use Rattle.std.specs.List.{AllByRecursion as All}
 use Rattle.std.proofs.ByRecursion.{All-from_get_or}
 use Rattle.std.proofs.lemmas.List.{append_assoc, length-append, length-map, length-take-le, length_push, take-append-drop, take-take, take_at, drop_at, drop-take, take_more_set, get_or-map, get_or-take, get_or-set_same, get_or-set_other, get_or_append_left, get_or_push, same_lists, map_push, flat_map_more}
@@ -8,13 +8,13 @@ use Rattle.std.proofs.lemmas.List.Sums.{sum_by-cons}
 use Rattle.std.proofs.lemmas.Bool.{cases_lt, leb-true, eqb-true}
 use Rattle.page_format.specs.Bits.{le_bytes}
 use Rattle.page_format.specs.Limits.{most_entries}
-use Rattle.page_format.specs.Plain.{Bytes, PlainValue, plain_head, plain_form, plain_page, ReadsPlain}
+use Rattle.page_format.specs.Plain.{Bytes, PlainValue, plain_head, plain_form, plain_page}
 use Rattle.page_format.specs.Writes.{Wrote}
 use Rattle.page_format.specs.declared.column.Column.{Column}
 use Rattle.page_format.specs.declared.column.Column.TheVariants.{ByteStrings, Fixed}
 use Rattle.page_format.proofs.Endian.{length-le_bytes}
 use Rattle.page_format.proofs.Plains.{one_plain_reading}
-use Rattle.interner.specs.Entries.{Store, Suited, in_use, Lawful, Kept}
+use Rattle.interner.specs.Entries.{Suited, in_use, Lawful, Kept}
 use Rattle.interner.specs.Layouts.{plain_suits, plain_need, plain_store, standing, stored, no_entry, Inside, AllSuit}
 use Rattle.interner.specs.declared.entry.Entry.{Entry}
 

@@ -23,8 +23,8 @@ impl<S: Storage, H: KeyHash> Interner<S, H> {
     pub fn new(storage: S, hash: H) -> Interner<S, H>
         ensures storage { result.storage ≡ storage }
         ensures hash { result.hash ≡ hash }
-        ensures sound { entries storage ≡ [] → Sound (hashed result.hash) (entries result.storage) result.slots }
-        ensures every_run { EveryRun (store result.storage) }
+        ensures sound { S.entries storage ≡ [] → Sound (H.hashed result.hash) (S.entries result.storage) result.slots }
+        ensures every_run { EveryRun (S.store result.storage) }
     {
         Interner {
             storage,
@@ -35,7 +35,7 @@ impl<S: Storage, H: KeyHash> Interner<S, H> {
 
     // The walk for `value` from the slot of its hash.
     fn probe(&self, value: &[u8]) -> Probe
-        ensures { Probed (hashed self.now.hash) (entries self.now.storage) self.now.slots value.now result }
+        ensures { Probed (H.hashed self.now.hash) (S.entries self.now.storage) self.now.slots value.now result }
     {
         let start = self.hash.hash_one(value) as usize % TABLE_SLOTS;
         for step in 0..TABLE_SLOTS {
@@ -53,13 +53,13 @@ impl<S: Storage, H: KeyHash> Interner<S, H> {
 
     // The key of `value`, which becomes an entry if it is none.
     pub fn intern(&mut self, value: &[u8], place: usize) -> Result<usize, Fault>
-        ensures step { Sound (hashed self.old.hash) (entries self.old.storage) self.old.slots → Step (store self.old.storage) (entries self.old.storage) (record { value = value.entry.now; place = place; answer = told result }) (entries self.new.storage) }
-        ensures sound { Sound (hashed self.old.hash) (entries self.old.storage) self.old.slots → Sound (hashed self.new.hash) (entries self.new.storage) self.new.slots }
-        ensures known { Sound (hashed self.old.hash) (entries self.old.storage) self.old.slots → (k : ℕ) → Holds (entries self.old.storage) k value.now → self.new ≡ self.old }
-        ensures answer { FoundOrPushed (store self.old.storage) (entries self.old.storage) value.now place (told result) (entries self.new.storage) }
-        ensures same { (store self.new.storage ≡ store self.old.storage) × (self.new.hash ≡ self.old.hash) }
+        ensures step { Sound (H.hashed self.old.hash) (S.entries self.old.storage) self.old.slots → Step (S.store self.old.storage) (S.entries self.old.storage) (record { value = value.now; place = place; answer = told result }) (S.entries self.new.storage) }
+        ensures sound { Sound (H.hashed self.old.hash) (S.entries self.old.storage) self.old.slots → Sound (H.hashed self.new.hash) (S.entries self.new.storage) self.new.slots }
+        ensures known { Sound (H.hashed self.old.hash) (S.entries self.old.storage) self.old.slots → (k : ℕ) → Holds (S.entries self.old.storage) k value.now → self.new ≡ self.old }
+        ensures answer { FoundOrPushed (S.store self.old.storage) (S.entries self.old.storage) value.now place (told result) (S.entries self.new.storage) }
+        ensures same { (S.store self.new.storage ≡ S.store self.old.storage) × (self.new.hash ≡ self.old.hash) }
         ensures rejected { (f : Fault) → result ≡ Err f → self.new ≡ self.old }
-        ensures bytes { memory self.new.storage ≡ (store self.old.storage).page (entries self.new.storage) ++ drop (in_use (store self.old.storage) (entries self.new.storage)) (memory self.old.storage) }
+        ensures bytes { S.memory self.new.storage ≡ (S.store self.old.storage).page (S.entries self.new.storage) ++ drop (in_use (S.store self.old.storage) (S.entries self.new.storage)) (S.memory self.old.storage) }
     {
         match self.probe(value) {
             Probe::Hit(key) => Ok(key),

@@ -6,7 +6,7 @@ ghost use Rattle.page_format.specs.Writes.{Wrote};
 ghost use Rattle.page_format.specs.declared.fault.Layer.TheVariants.{Store};
 ghost use Rattle.interner.specs.Layouts.{no_entry, stored, Inside, AllSuit, plain_suits, plain_store};
 ghost use Rattle.interner.specs.Laying;
-ghost use Rattle.std.proofs.Common.{rules, arith};
+ghost use Rattle.std.proofs.Common.{sym, arith};
 
 use crate::entry::Entry;
 use crate::storage::Storage;
@@ -124,7 +124,7 @@ impl Storage for PlainStorage {
 
     ghost lawful = { λ x. Laying.lawful x.column x.bytes.len };
 
-    ghost kept = { first_of (Prim.search rules, Prim.grind (arith, Self.row.coded.inj)) };
+    ghost kept = { λ x. Laying.kept x.column x.bytes.items x.table x.count x.used x.bytes.len (sym x.bytes.ok.0) (Prim.omega (arith, x.few, x.whole)) x.few x.within x.suited x.laid };
 
     fn column(&self) -> Column {
         self.column

@@ -1,4 +1,4 @@
-use Rattle.std.proofs.Common.{◌≡◌, ℕ, Err, sym, refl, ap, ◌∙◌, arith}
+use Rattle.std.proofs.Common.{◌≡◌, ℕ, Err, refl, ap, ◌∙◌, arith}
 use Rattle.std.proofs.lemmas.Result.{err_from_is_err_and}
 use Rattle.interner.specs.Interning.{found, added}
 use Rattle.interner.proofs.Pushing.{page_first}
@@ -19,13 +19,13 @@ returns-in-Hit g c =
       bytes = page_first (g.met.S.Storage.kept c.args.self.now.storage);
     }
 
-pub returns-in-ok-key : goal.returns-in-ok-key
-returns-in-ok-key g c =
+pub returns-in_ok-key-in-Free : goal.returns-in_ok-key-in-Free
+returns-in_ok-key-in-Free g c =
     let stops = c.in-Free.ensures in
-    let told = c.in-ok-key.ensures in
+    let told = c.in_ok-key-in-Free.ensures in
     record {
       step = λ s. step_new _ _ _ _ _ _ (absent_free s stops) told.answer told.grown;
-      sound = λ s. sound_free (g.S.Storage.store c.args.self.now.storage) c.args.place c.in-ok-key.key (g.S.Storage.entries c.push.new.self) s stops told.answer told.grown;
+      sound = λ s. sound_free (g.S.Storage.store c.args.self.now.storage) c.args.place c.in_ok-key-in-Free.key (g.S.Storage.entries c.push.new.self) s stops told.answer told.grown;
       known = λ s k h. absurd (absent_free s stops k h);
       answer = added told.answer told.grown;
       same = (told.same, refl);
@@ -48,11 +48,11 @@ returns-in-Full g c =
       bytes = told.bytes;
     }
 
-pub returns-in-err-key : goal.returns-in-err-key
-returns-in-err-key g c =
+pub returns-in_err-key-in-Free : goal.returns-in_err-key-in-Free
+returns-in_err-key-in-Free g c =
     let stops = c.in-Free.ensures in
-    let told = c.in-err-key.ensures in
-    let (f, e, q) = err_from_is_err_and c.from-residual.result c.from-residual.ensures.1 in
+    let told = c.in_err-key-in-Free.ensures in
+    let (f, e, q) = err_from_is_err_and c.from_residual.result c.from_residual.ensures.1 in
     let back = e ∙ ap Err q in
     record {
       step = λ s. rw back (step_new _ _ _ _ _ _ (absent_free s stops) told.answer told.grown);
@@ -60,6 +60,6 @@ returns-in-err-key g c =
       known = λ s k h. absurd (absent_free s stops k h);
       answer = rw back (added told.answer told.grown);
       same = (told.same, refl);
-      rejected = λ f e. simp (told.unchanged c.in-err-key.field-0.0 refl);
+      rejected = λ f e. simp (told.unchanged c.in_err-key-in-Free.field-0.0 refl);
       bytes = told.bytes;
     }

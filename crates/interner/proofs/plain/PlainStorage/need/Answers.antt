@@ -1,4 +1,4 @@
-use Rattle.std.proofs.Common.{◌≡◌, true, sym, refl}
+use Rattle.std.proofs.Common.{◌≡◌, true, sym}
 use Rattle.page_format.specs.declared.column.Column.TheVariants.{ByteStrings}
 use Rattle.interner.specs.Layouts.{plain_suits}
 use Rattle.interner.specs.Laying.{form_need}
