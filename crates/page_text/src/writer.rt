@@ -32,7 +32,7 @@ pub fn push_number(out: &mut String, number: u64) -> Result<(), AllocError>
     ensures appends { OnOk result (string_bytes out.new ≡ string_bytes out.old ++ decimal number) }
     ensures keeps { Keeps (string_bytes out.old) (string_bytes out.new) }
 {
-    let digits = number.to_string(out.allocator())?;
+    let digits = number.to_string(*out.allocator())?;
     out.push_str(digits.as_str())
 }
 

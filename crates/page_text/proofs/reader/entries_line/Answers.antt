@@ -5,12 +5,12 @@ use Rattle.page_text.proofs.Parsed.{no_entries, entries_by}
 use Rattle.page_text.proofs.reader.entries_line.Goals as goal
 use Rattle.std.proofs.lemmas.Bool.Decides.{Decides-eqb}
 
-pub returns-in-err-strip-prefix : goal.returns-in-err-strip-prefix
-returns-in-err-strip-prefix c =
-    let stripped = strip_prefix_is Decides-eqb c.args.line.now (codes "entries ") c.strip-prefix.result c.strip-prefix.ensures.cases in
-    record { reads = rw c.from-residual.ensures (no_entries c.args.line.now (MatchOption-at_none _ _ c.in-err-strip-prefix.was stripped)) }
+pub returns-in_err-strip_prefix : goal.returns-in_err-strip_prefix
+returns-in_err-strip_prefix c =
+    let stripped = strip_prefix_is Decides-eqb c.args.line.now (codes "entries ") c.strip_prefix.result c.strip_prefix.ensures.cases in
+    record { reads = rw c.from_residual.ensures (no_entries c.args.line.now (MatchOption-at_none _ _ c.in_err-strip_prefix.was stripped)) }
 
 pub returns : goal.returns
 returns c =
-    let stripped = strip_prefix_is Decides-eqb c.args.line.now (codes "entries ") c.strip-prefix.result c.strip-prefix.ensures.cases in
-    record { reads = entries_by c.args.line.now c.in-ok-strip-prefix.field-0.now c.number.result (MatchOption-at_some _ _ _ c.in-ok-strip-prefix.was stripped) c.number.ensures.reads }
+    let stripped = strip_prefix_is Decides-eqb c.args.line.now (codes "entries ") c.strip_prefix.result c.strip_prefix.ensures.cases in
+    record { reads = entries_by c.args.line.now c.in_ok-strip_prefix.field-0.now c.number.result (MatchOption-at_some _ _ _ c.in_ok-strip_prefix.was stripped) c.number.ensures.reads }

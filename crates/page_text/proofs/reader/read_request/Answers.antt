@@ -14,7 +14,7 @@ use Rattle.page_text.proofs.reader.read_request.Goals.{In-Some, After-split-2}
 page_is : (c : In-Some) → PageLine (first_line c.args.text.now) c.in-Some.page.encoding c.in-Some.page.count (vec_items c.in-Some.page.bytes)
 page_is c =
     subst (λ l. PageLine l c.in-Some.page.encoding c.in-Some.page.count (vec_items c.in-Some.page.bytes)) c.split.ensures.front
-    (MatchOption-at_some _ _ _ c.in-Some.is c.in-ok-page.ensures.reads)
+    (MatchOption-at_some _ _ _ c.in-Some.is c.in_ok-page.ensures.reads)
 
 -- it is in encoding 8, and the second split found the second line
 eight : (c : After-split-2) → PageLine (first_line c.args.text.now) 8 c.in-Some.page.count (vec_items c.in-Some.page.bytes)
@@ -36,9 +36,9 @@ returns-then-text-gt-LONGEST c =
       exact = λ line what g. one_fault c.args.text.now 1 line TooLong what f g;
     }
 
-pub returns-in-default : goal.returns-in-default
-returns-in-default c =
-    let none = subst (λ l. IsPage l → ⊥) c.split.ensures.front (MatchOption-at_none _ _ c.in-default.is c.in-ok-page.ensures.reads) in
+pub returns-in_default : goal.returns-in_default
+returns-in_default c =
+    let none = subst (λ l. IsPage l → ⊥) c.split.ensures.front (MatchOption-at_none _ _ c.in_default.is c.in_ok-page.ensures.reads) in
     let f : Fault c.args.text.now 1 NotPageLine = (refl, omega arith, none) in
     record {
       accepted = tt;
@@ -59,10 +59,10 @@ returns-then-page-ne8 c =
       exact = λ line what g. one_fault c.args.text.now 1 line OtherEncoding what f g;
     }
 
-pub returns-in-default-entries-line : goal.returns-in-default-entries-line
-returns-in-default-entries-line c =
-    let at = (goal.at.returns-in-default-entries-line c).After-split-2 in
-    let none = subst (λ l. IsEntries l → ⊥) (second_is at) c.in-default-entries-line.ensures.reads in
+pub returns-in_default-entries_line : goal.returns-in_default-entries_line
+returns-in_default-entries_line c =
+    let at = (goal.at.returns-in_default-entries_line c).After-split-2 in
+    let none = subst (λ l. IsEntries l → ⊥) (second_is at) c.in_default-entries_line.ensures.reads in
     let f : Fault c.args.text.now 2 NotEntriesLine = (refl, omega arith, (c.in-Some.page.count, vec_items c.in-Some.page.bytes, eight at), none) in
     record {
       accepted = tt;
@@ -71,13 +71,13 @@ returns-in-default-entries-line c =
       exact = λ line what g. one_fault c.args.text.now 2 line NotEntriesLine what f g;
     }
 
-pub returns-then-not-is-empty : goal.returns-then-not-is-empty
-returns-then-not-is-empty c =
-    let at = (goal.at.returns-then-not-is-empty c).After-split-2 in
-    let entries = subst (λ l. EntriesLine l c.in-Some-entries-line.entries) (second_is at) c.in-Some-entries-line.ensures.reads in
-    let some = some_from_test c.split-2.result.1.now c.if-not-is-empty.ensures in
+pub returns-then-not-is_empty : goal.returns-then-not-is_empty
+returns-then-not-is_empty c =
+    let at = (goal.at.returns-then-not-is_empty c).After-split-2 in
+    let entries = subst (λ l. EntriesLine l c.in-Some-entries_line.entries) (second_is at) c.in-Some-entries_line.ensures.reads in
+    let some = some_from_test c.split-2.result.1.now c.if-not-is_empty.ensures in
     let f : Fault c.args.text.now 3 LineTooMany =
-    (refl, omega arith, (c.in-Some.page.count, vec_items c.in-Some.page.bytes, eight at), (c.in-Some-entries-line.entries, entries), λ z. omega (arith, some, ap length (past_is at ∙ z))) in
+    (refl, omega arith, (c.in-Some.page.count, vec_items c.in-Some.page.bytes, eight at), (c.in-Some-entries_line.entries, entries), λ z. omega (arith, some, ap length (past_is at ∙ z))) in
     record {
       accepted = tt;
       complete = λ n bs m short says. no_fault c.args.text.now n bs m short says 3 LineTooMany f;
@@ -89,10 +89,10 @@ pub returns : goal.returns
 returns c =
     let at = (goal.at.returns c).After-split-2 in
     let page = eight at in
-    let entries = subst (λ l. EntriesLine l c.in-Some-entries-line.entries) (second_is at) c.in-Some-entries-line.ensures.reads in
-    let last = sym (past_is at) ∙ empty_from_test c.split-2.result.1.now c.if-not-is-empty.ensures in
+    let entries = subst (λ l. EntriesLine l c.in-Some-entries_line.entries) (second_is at) c.in-Some-entries_line.ensures.reads in
+    let last = sym (past_is at) ∙ empty_from_test c.split-2.result.1.now c.if-not-is_empty.ensures in
     let short : Short c.args.text.now = omega arith in
-    let says = says_of c.args.text.now c.in-Some.page.count (vec_items c.in-Some.page.bytes) c.in-Some-entries-line.entries (record { first = page; second = entries; last = last }) in
+    let says = says_of c.args.text.now c.in-Some.page.count (vec_items c.in-Some.page.bytes) c.in-Some-entries_line.entries (record { first = page; second = entries; last = last }) in
     record {
       accepted = (short, says);
       complete = λ n bs m short says.
