@@ -8,7 +8,7 @@ use Rattle.page_format.specs.Bits.{packed_bytes}
 use Rattle.page_format.specs.Limits.{key_width}
 use Rattle.page_format.specs.Writes.{Wrote}
 use Rattle.key_pages.specs.Runs.{Run, repeat, packed, run_bytes}
-use Rattle.key_pages.specs.Machine.{Writer, closed, joins, put}
+use Rattle.key_pages.specs.Machine.{Writer, closed, put}
 use Rattle.key_pages.specs.Held.{Stands, Holds, Counts, bytes, Room, packing, filling, joining, Full, Joins, Small, Ready, Grows, Refines}
 use Rattle.key_pages.specs.declared.encoder.RleEncoder.{RleEncoder}
 use Rattle.key_pages.specs.declared.encoder.State.{State}

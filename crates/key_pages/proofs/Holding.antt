@@ -6,7 +6,7 @@ use Rattle.std.proofs.lemmas.List.{take_more_set, append_assoc, append-nil, leng
 use Rattle.std.proofs.lemmas.Bool.{lt-ltb, le-ltb, le-leb, lt-leb, eq-eqb, ne_eqb}
 use Rattle.key_pages.specs.Runs.{Run, repeat, packed, run_bytes}
 use Rattle.page_format.specs.Bits.{packed_bytes}
-use Rattle.key_pages.specs.Machine.{Writer, closed, joins, put}
+use Rattle.key_pages.specs.Machine.{Writer, closed, put}
 use Rattle.key_pages.specs.Held.{bytes, packing, filling, joining}
 
 joined-push : {X : Type 0} (f : X → List ℕ) (xs : List X) (x : X) → flat_map f (xs ++ x ∷ []) ≡ flat_map f xs ++ f x

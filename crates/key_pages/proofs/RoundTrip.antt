@@ -1,14 +1,14 @@
 -- A page of the cut, read by the format, gives its keys back.
-use Rattle.std.proofs.Common.{◌≡◌, ℕ, zero, suc, ◌+◌, ◌-◌, ◌*◌, ◌/◌, ◌%◌, ◌^◌, ◌<◌, ◌≤◌, List, [], ◌∷◌, ◌++◌, map, length, get_or, take, drop, replicate, Ok, Err, sym, refl, ap, ◌∙◌, subst, ap₂, inl, inr, mod-eq_of_lt, mul_assoc, add-mul, mul-add, arith, length-append, length-drop, pow_mono}
+use Rattle.std.proofs.Common.{◌≡◌, ℕ, zero, suc, ◌+◌, ◌-◌, ◌*◌, ◌/◌, ◌%◌, ◌^◌, ◌<◌, ◌≤◌, List, [], ◌∷◌, ◌++◌, length, get_or, take, drop, replicate, Ok, sym, refl, ap, ◌∙◌, subst, ap₂, mod-eq_of_lt, mul_assoc, add-mul, mul-add, arith, length-append, pow_mono}
 use native.Mathlib.Nat.{div-eq_of_lt, add-mul-mod_self_left, add-mul-div_left}
 use lib.ListN.{length-replicate}
-use Rattle.std.specs.List.{range_with_len, flat_map, AllByRecursion as All}
+use Rattle.std.specs.List.{flat_map, AllByRecursion as All}
 use Rattle.std.proofs.lemmas.List.{append-nil, append_assoc, take_at, drop_at, take_all, length_push}
-use Rattle.std.proofs.lemmas.Nat.{pow-add, pow_pos, mul-le}
+use Rattle.std.proofs.lemmas.Nat.{pow-add, pow_pos}
 use Rattle.std.proofs.lemmas.List.FromFn.{fill_by_all}
 use Rattle.std.proofs.ByRecursion.{All-get_or, All-append}
 use Rattle.page_format.specs.Bits.{varint, read_varint, le_bytes, le_number, packed_number, packed_bytes, packed_value, low_bits, bytes_for}
-use Rattle.page_format.specs.Limits.{key_width, page_values, run_groups}
+use Rattle.page_format.specs.Limits.{page_values, run_groups}
 use Rattle.page_format.proofs.Endian.{length-le_bytes, le_append, le_low, le_reads}
 use Rattle.page_format.proofs.Varints.{varint_reads_back, varint_last}
 use Rattle.page_format.proofs.Packing.{packed_length, packed_below, packed_reads_back}
@@ -16,7 +16,7 @@ use Rattle.key_pages.proofs.Ruling.{rules_cut}
 use Rattle.key_pages.specs.Back.{PageReadsBack}
 use Rattle.key_pages.specs.Runs.{Run, repeat, packed, filled, cut, run_bytes, page}
 use Rattle.key_pages.specs.Cuts.{Cuts, none, repeats as rule_repeats, packs as rule_packs, fills, stops, alike, unlike, flat, Mixed}
-use Rattle.key_pages.specs.Meaning.{ReadRun, repeats, packs, unpacked, run_length, run_values, Header, RunAt, a_repeat, a_packed, RunsOf, no_more, one_more, Means, means, keys_of}
+use Rattle.key_pages.specs.Meaning.{ReadRun, unpacked, run_length, run_values, Header, RunAt, a_repeat, a_packed, RunsOf, no_more, one_more, means, keys_of}
 
 -- lists
 

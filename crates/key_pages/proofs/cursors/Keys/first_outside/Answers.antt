@@ -1,4 +1,4 @@
-use Rattle.std.proofs.Common.{◌≡◌, ap, ◌∙◌, arith}
+use Rattle.std.proofs.Common.{◌≡◌, ap, ◌∙◌, arith, inl}
 use Rattle.std.specs.Iterator.Adapters.{enumerate_source, enumerate_count}
 use Rattle.key_pages.specs.Coming.{keys_to_come}
 use Rattle.key_pages.proofs.Opens.{passing_none, passing_more, passing_stop, passing_end, keys_few}
@@ -7,10 +7,10 @@ use Rattle.key_pages.proofs.cursors.Keys.first_outside.Goals as goal
 pub loop-number-init : goal.loop-number-init
 loop-number-init c =
     let s = c.args.self in
-    let t = c.into-iter-number-iterator.result in
-    let source : enumerate_source t ≡ s = ap enumerate_source c.into-iter-number-iterator.ensures.into-iter-gives ∙ c.enumerate-number-items.ensures.source in
-    let count : enumerate_count t ≡ 0 = ap enumerate_count c.into-iter-number-iterator.ensures.into-iter-gives ∙ c.enumerate-number-items.ensures.count in (
-      (tt, tt, omega (arith, keys_few s (enumerate_source t) (enumerate_count t) source count)),
+    let t = c.into_iter-number-iterator.result in
+    let source : enumerate_source t ≡ s = ap enumerate_source c.into_iter-number-iterator.ensures.into_iter_gives ∙ c.enumerate-number-items.ensures.source in
+    let count : enumerate_count t ≡ 0 = ap enumerate_count c.into_iter-number-iterator.ensures.into_iter_gives ∙ c.enumerate-number-items.ensures.count in (
+      (tt, tt, inl (omega (arith, keys_few s (enumerate_source t) (enumerate_count t) source count))),
       tt,
       passing_none (keys_to_come s) (keys_to_come (enumerate_source t)) c.args.entries (enumerate_count t) (ap keys_to_come source) count,
     )

@@ -7,11 +7,11 @@ returns-in-Err c =
     record { fault = sym (fault_stops c.loop-self.self c.in-Err.place c.advance.new.self c.loop-self-test.true c.in-Err.ensures.advanced) ∙ c.loop-self.invariant }
 
 pub loop-self-smaller : goal.loop-self-smaller
-loop-self-smaller c = (fault_same c.loop-self.self c.in-default.field-0 c.advance.new.self c.loop-self-test.true c.in-default.ensures.advanced).1
+loop-self-smaller c = (fault_same c.loop-self.self c.in_default.field-0 c.advance.new.self c.loop-self-test.true c.in_default.ensures.advanced).1
 
 pub loop-self-preserved : goal.loop-self-preserved
 loop-self-preserved c =
-    (fault_same c.loop-self.self c.in-default.field-0 c.advance.new.self c.loop-self-test.true c.in-default.ensures.advanced).0 ∙ c.loop-self.invariant
+    (fault_same c.loop-self.self c.in_default.field-0 c.advance.new.self c.loop-self-test.true c.in_default.ensures.advanced).0 ∙ c.loop-self.invariant
 
 pub returns-then-self : goal.returns-then-self
 returns-then-self c =

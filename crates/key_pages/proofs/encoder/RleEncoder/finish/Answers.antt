@@ -4,8 +4,8 @@ use Rattle.key_pages.proofs.Carried.{repeats_long}
 use Rattle.key_pages.proofs.Finishing.{ended_room, ended}
 use Rattle.key_pages.proofs.encoder.RleEncoder.finish.Goals as goal
 
-pub put-repeat-requires : goal.put-repeat-requires
-put-repeat-requires c =
+pub put_repeat-requires : goal.put_repeat-requires
+put_repeat-requires c =
     let m = c.requires.model in
     let h = c.requires.held in
     let n = repeats_long c.args.self.now.state c.in-Repeating.count m.count c.in-Repeating.is h.counts in
@@ -17,9 +17,9 @@ put-repeat-requires c =
 
 pub returns-in-Repeating : goal.returns-in-Repeating
 returns-in-Repeating c = record {
-  ended = ended c.args.self.now c.args.out.now c.in-Repeating.count Holds Small c.put-repeat.result c.put-repeat.new.out
+  ended = ended c.args.self.now c.args.out.now c.in-Repeating.count Holds Small c.put_repeat.result c.put_repeat.new.out
       (λ m h a.
       let n = repeats_long c.args.self.now.state c.in-Repeating.count m.count c.in-Repeating.is h.counts in
       (h.stands, n.0, (a.repeating n.1, inl n.1)))
-      c.put-repeat.ensures.wrote c.put-repeat.auto.out;
+      c.put_repeat.ensures.wrote c.put_repeat.auto.out;
 }

@@ -6,8 +6,8 @@ use Rattle.key_pages.proofs.Holding.{joining_part, joining_full}
 use Rattle.key_pages.proofs.Carried.{with_key, keyed, takes_key, rests, resting}
 use Rattle.key_pages.proofs.encoder.RleEncoder.join_group.Goals as goal
 
-pub fill-group-requires : goal.fill-group-requires
-fill-group-requires c =
+pub fill_group-requires : goal.fill_group-requires
+fill_group-requires c =
     let m = c.requires.model in
     let h = c.requires.held in
     let a = c.requires.apt in
@@ -23,10 +23,10 @@ pub returns-then-self-eq8 : goal.returns-then-self-eq8
 returns-then-self-eq8 c = record {
   refines = λ m h a.
       let long : 7 ≤ length m.part = omega (arith, h.waiting_is, c.if-self-eq8.true) in
-      subst (λ t. Holds t c.fill-group.new.self c.fill-group.new.out) (sym (joining_full m long))
-      (c.fill-group.ensures.refines (with_key m) (takes_key m c.args.self.now c.args.out.now h a.part_short)
+      subst (λ t. Holds t c.fill_group.new.self c.fill_group.new.out) (sym (joining_full m long))
+      (c.fill_group.ensures.refines (with_key m) (takes_key m c.args.self.now c.args.out.now h a.part_short)
       (record { full_is = (omega (arith, length_push m.part m.last, a.part_short), a.groups_few); count_is = a.count_is }));
-  grows = record { width_is = c.fill-group.ensures.grows.width_is; further = c.fill-group.ensures.grows.further; back = c.fill-group.ensures.grows.back };
+  grows = record { width_is = c.fill_group.ensures.grows.width_is; further = c.fill_group.ensures.grows.further; back = c.fill_group.ensures.grows.back };
 }
 
 pub returns-else-self-eq8 : goal.returns-else-self-eq8

@@ -12,16 +12,16 @@ opened c = open_ready c.args.self.now c.if-self-eq0.self c.args.out.now c.requir
 pub bounds-out-self : goal.bounds-out-self
 bounds-out-self c = let o = opened (goal.at.bounds-out-self c).Joined-self-eq0 in omega (arith, o.head, o.room)
 
-pub put-group-self-requires : goal.put-group-self-requires
-put-group-self-requires c =
-    let o = opened (goal.at.put-group-self-requires c).Joined-self-eq0 in
+pub put_group-self-requires : goal.put_group-self-requires
+put_group-self-requires c =
+    let o = opened (goal.at.put_group-self-requires c).Joined-self-eq0 in
     record { narrow = o.narrow; inside = o.inside; room = simp length-set o.room }
 
 pub returns : goal.returns
 returns c =
     let at = (goal.at.returns c).Joined-self-eq0 in
-    let long : length c.put-group-self.new.out ≡ length c.args.out.now = c.put-group-self.auto.out ∙ simp length-set in
+    let long : length c.put_group-self.new.out ≡ length c.args.out.now = c.put_group-self.auto.out ∙ simp length-set in
     record {
-      refines = λ m h f. packs m c.args.self.now c.if-self-eq0.self c.args.out.now c.put-group-self.new.out c.put-group-self.result h f long (headed at) c.put-group-self.ensures.wrote;
-      grows = packs_grows c.args.self.now c.if-self-eq0.self c.args.out.now c.put-group-self.new.out c.put-group-self.result (opened at) c.put-group-self.ensures.wrote;
+      refines = λ m h f. packs m c.args.self.now c.if-self-eq0.self c.args.out.now c.put_group-self.new.out c.put_group-self.result h f long (headed at) c.put_group-self.ensures.wrote;
+      grows = packs_grows c.args.self.now c.if-self-eq0.self c.args.out.now c.put_group-self.new.out c.put_group-self.result (opened at) c.put_group-self.ensures.wrote;
     }

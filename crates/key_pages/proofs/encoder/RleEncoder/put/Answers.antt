@@ -11,8 +11,8 @@ returns-in-Repeating-true c = record {
   grows = record { width_is = refl; further = omega arith; back = refl };
 }
 
-pub put-repeat-self-requires : goal.put-repeat-self-requires
-put-repeat-self-requires c =
+pub put_repeat-self-requires : goal.put_repeat-self-requires
+put_repeat-self-requires c =
     let r = c.requires.ready in
     let n = repeats_long c.args.self.now.state c.in-Repeating-false.count r.model.count c.in-Repeating-false.is-0 r.held.counts in
     record {
@@ -25,24 +25,24 @@ put-repeat-self-requires c =
 way : (c : Joined-self) → Way c.args.self.now c.args.out.now c.args.key c.match-self.self c.match-self.out c.match-self.repeats
 way c =
     elim c.match-self.branch [
-      | in-Repeating-false w ↦ after w.in-Repeating-false.is-1 w.in-Repeating-false.count w.in-Repeating-false.is-0 w.put-repeat-self.result
-          (subst (λ t. Wrote (run_bytes c.args.self.now.width (repeat w.in-Repeating-false.count c.args.self.now.last)) c.args.self.now.at c.args.out.now w.put-repeat-self.result t) (sym w.out-is) w.put-repeat-self.ensures.wrote)
+      | in-Repeating-false w ↦ after w.in-Repeating-false.is-1 w.in-Repeating-false.count w.in-Repeating-false.is-0 w.put_repeat-self.result
+          (subst (λ t. Wrote (run_bytes c.args.self.now.width (repeat w.in-Repeating-false.count c.args.self.now.last)) c.args.self.now.at c.args.out.now w.put_repeat-self.result t) (sym w.out-is) w.put_repeat-self.ensures.wrote)
           c.match-self.auto.out w.self-is w.repeats-is
       | in-Gathering-true w ↦ same w.in-Gathering-true.is-1 w.in-Gathering-true.repeats w.in-Gathering-true.is-0 w.self-is w.out-is w.repeats-is
       | in-Gathering-false w ↦ other w.in-Gathering-false.is-1 w.in-Gathering-false.field-0-0 w.in-Gathering-false.is-0 w.self-is w.out-is w.repeats-is
     ]
 
-pub join-group-requires : goal.join-group-requires
-join-group-requires c =
+pub join_group-requires : goal.join_group-requires
+join_group-requires c =
     way_ready c.args.self.now c.match-self.self c.args.out.now c.match-self.out c.args.key c.match-self.repeats c.requires.inside
-    (way (goal.at.join-group-requires c).Joined-self) c.requires.ready c.match-self.auto.out
+    (way (goal.at.join_group-requires c).Joined-self) c.requires.ready c.match-self.auto.out
 
 pub returns : goal.returns
 returns c =
     let w = way (goal.at.returns c).Joined-self in
     record {
       refines = way_refines c.args.self.now c.match-self.self c.args.out.now c.match-self.out c.args.key c.match-self.repeats c.requires.inside w
-          c.join-group.new.self c.join-group.new.out c.join-group.ensures.refines;
+          c.join_group.new.self c.join_group.new.out c.join_group.ensures.refines;
       grows = way_on c.args.self.now c.match-self.self c.args.out.now c.match-self.out c.args.key c.match-self.repeats c.requires.inside w
-          c.join-group.new.self c.join-group.new.out c.join-group.ensures.grows;
+          c.join_group.new.self c.join_group.new.out c.join_group.ensures.grows;
     }

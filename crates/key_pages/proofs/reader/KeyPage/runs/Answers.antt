@@ -2,12 +2,12 @@ use Rattle.std.proofs.Common.{sym, ap, ◌∙◌}
 use Rattle.key_pages.proofs.Opens.{width_some, runs_meant, width_meant, width_missing}
 use Rattle.key_pages.proofs.reader.KeyPage.runs.Goals as goal
 
-pub returns-in-default : goal.returns-in-default
-returns-in-default c =
+pub returns-in_default : goal.returns-in_default
+returns-in_default c =
     let p = c.args.self.now in
     record {
-      runs = λ w runs m. absurd (width_missing p.page.now p.count w runs (sym c.in-default.ensures.width) m);
-      width = λ w runs m. absurd (width_missing p.page.now p.count w runs (sym c.in-default.ensures.width) m);
+      runs = λ w runs m. absurd (width_missing p.page.now p.count w runs (sym c.in_default.ensures.width) m);
+      width = λ w runs m. absurd (width_missing p.page.now p.count w runs (sym c.in_default.ensures.width) m);
     }
 
 pub start-requires : goal.start-requires

@@ -7,5 +7,5 @@ returns c =
     record {
       width = λ w runs m.
           let p = c.args.self.now in
-          c.unwrap-or.ensures ∙ ap (λ o. unwrap_or o 0) (c.width-of.ensures.width ∙ means_width p.page.now p.count w runs m);
+          c.unwrap_or.ensures ∙ ap (λ o. unwrap_or o 0) (c.width_of.ensures.width ∙ means_width p.page.now p.count w runs m);
     }
