@@ -1,11 +1,11 @@
 -- How what the readers and the writer promise makes a report.
-use Rattle.std.proofs.Common.{◌≡◌, ℕ, ◌+◌, ◌-◌, ◌^◌, ◌<◌, ◌≤◌, Bool, true, false, ◌⊎◌, List, [], ◌∷◌, ◌++◌, length, get_or, take, drop, Ok, Err, codes, Decides, Result, sym, refl, ap, ◌∙◌, subst, ap₂, inl, inr, arith, length-take}
+use Rattle.std.proofs.Common.{◌≡◌, ℕ, ◌+◌, ◌-◌, ◌^◌, ◌<◌, ◌≤◌, Bool, List, [], ◌∷◌, ◌++◌, length, take, Ok, Err, codes, Decides, Result, sym, ap, ◌∙◌, subst, ap₂, inl, inr, arith, length-take}
 use mathlib.Core.Path.{subst₃}
 use Rattle.std.specs.List.{flat_map, ContainsAt as Has, AllByRecursion as All}
 use Rattle.std.proofs.ByRecursion.{All-get_or}
 use Rattle.std.proofs.lemmas.List.{append_assoc, length-take-le, get_or-take}
 use Rattle.page_format.specs.Bits.{BitsOf}
-use Rattle.page_format.specs.Limits.{key_width, page_values, most_entries}
+use Rattle.page_format.specs.Limits.{page_values, most_entries}
 use Rattle.page_format.specs.declared.fault.Fault.{Fault}
 use Rattle.page_format.specs.Writes.{Wrote}
 use Rattle.std.specs.Result.{result_unwrap_or}

@@ -65,7 +65,7 @@ pub(crate) fn push_runs(out: &mut String, runs: Runs<'_>) -> Result<(), AllocErr
     ensures { OnOk result (string_bytes out.new ≡ string_bytes out.old ++ flat_map run_line (runs_to_come runs.entry)) }
 {
     for run in runs {
-        let line = run_line(out.allocator(), run)?;
+        let line = run_line(*out.allocator(), run)?;
         out.push_str(line.as_str())?;
     }
     Ok(())
