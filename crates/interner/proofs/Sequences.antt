@@ -1,6 +1,6 @@
 -- What holds of every list of calls.
 use Rattle.std.proofs.Common.{◌≡◌, ℕ, Bool, true, false, cond, List, [], ◌∷◌, ◌++◌, map, length, is_some, sym, refl, ap, ◌∙◌, append_assoc, arith}
-use Rattle.std.specs.List.{AllByRecursion as All}
+use Rattle.std.specs.List.{AllByRecursion}
 use Rattle.std.proofs.lemmas.List.{length_push, get_or_push, append-nil}
 use Rattle.page_format.specs.Faults.{Told, answered}
 use Rattle.page_format.specs.Plain.{Bytes}
@@ -42,7 +42,7 @@ run_distinct : {st : Store} {es es' : List Bytes} {cs : List Call} → Runs st e
 run_distinct stop d = d
 run_distinct (then s r) d = run_distinct r (stays_distinct (way s) d)
 
-run_keys : {st : Store} {es es' : List Bytes} {cs : List Call} → Runs st es cs es' → All (NamesItsValue es') cs
+run_keys : {st : Store} {es es' : List Bytes} {cs : List Call} → Runs st es cs es' → AllByRecursion (NamesItsValue es') cs
 run_keys stop = tt
 run_keys (then {c} s r) = (λ k o. run_extends r k c.value (names (way s) k o), run_keys r)
 

@@ -1,6 +1,6 @@
 -- What a store of entries is, by the list of its entries.
 use Rattle.std.specs.Prelude.{◌≡◌, ℕ, ◌+◌, ◌<◌, ◌≤◌, Bool, true, cond, List, [], ◌∷◌, ◌++◌, length, take, sum_by, ◌≢◌, nat_le, nat_lt, slice_index_or}
-use Rattle.std.specs.List.{AllByRecursion as All}
+use Rattle.std.specs.List.{AllByRecursion}
 use Rattle.page_format.specs.Faults.{Told, answered, rejected}
 use Rattle.page_format.specs.Limits.{most_entries}
 use Rattle.page_format.specs.Plain.{Bytes, ReadsPlain}
@@ -16,7 +16,7 @@ pub record Store : Type 0 where
   pub page : List Bytes → Bytes
 
 abbrev pub Suited : Store → List Bytes → Type 0
-Suited st es = All (λ v. st.suits v ≡ true) es
+Suited st es = AllByRecursion (λ v. st.suits v ≡ true) es
 
 -- bytes in use
 abbrev pub in_use : Store → List Bytes → ℕ

@@ -1,7 +1,7 @@
 -- Entries in PLAIN one after another: what a store of them shows, and what one more entry keeps.
 use Rattle.std.specs.Prelude.{◌≡◌, ℕ, ◌+◌, ◌<◌, ◌≤◌, true, ◌≢◌, List, [], ◌∷◌, ◌++◌, map, length, get_or, take, drop, slice_index_or, slice_set, refl}
 use Rattle.std.proofs.Common.{inl, inr, sym, ap, ◌∙◌, arith}
-use Rattle.std.specs.List.{AllByRecursion as All}
+use Rattle.std.specs.List.{AllByRecursion}
 use Rattle.std.proofs.ByRecursion.{All-from_get_or}
 use Rattle.std.proofs.lemmas.List.{append_assoc, length-append, length-map, length-take-le, length_push, take-append-drop, take-take, take_at, drop_at, drop-take, take_more_set, get_or-map, get_or-take, get_or-set_same, get_or-set_other, get_or_append_left, get_or_push, same_lists, map_push, flat_map_more}
 use Rattle.std.proofs.lemmas.List.Sums.{sum_by-cons}
@@ -27,7 +27,7 @@ pub form_need : (c : Column) (v : Bytes) → plain_suits c v ≡ true → length
 form_need ByteStrings v s = length-append (le_bytes 4 (length v)) v ∙ ap (λ n. n + length v) (length-le_bytes 4 (length v))
 form_need (Fixed w) v s = eqb-true _ _ s
 
-forms : (c : Column) (m : ℕ) (es : List Bytes) → Suited (plain_store c m) es → All (PlainValue c) es
+forms : (c : Column) (m : ℕ) (es : List Bytes) → Suited (plain_store c m) es → AllByRecursion (PlainValue c) es
 forms c m [] s = tt
 forms c m (e ∷ es) (s, ss) = (suits_form c e s, forms c m es ss)
 

@@ -1,6 +1,6 @@
 -- How the code's steps carry what it stands for.
 use Rattle.std.proofs.Common.{◌≡◌, ℕ, suc, ◌+◌, ◌*◌, ◌^◌, ◌<◌, ◌≤◌, ◌⊎◌, List, [], ◌∷◌, ◌++◌, length, take, set, sym, refl, ap, ◌∙◌, subst, inl, inr, arith, length-append, length-set}
-use Rattle.std.specs.List.{flat_map, AllByRecursion as All}
+use Rattle.std.specs.List.{flat_map, AllByRecursion}
 use Rattle.std.proofs.lemmas.List.{take_all, take_more_set, length-take-le, nil_from_length, length_push, drop-set-lt}
 use Rattle.std.proofs.ByRecursion.{All-push}
 use Rattle.std.proofs.lemmas.Bool.{cases_eq, cases_lt}
@@ -42,7 +42,7 @@ Headed e s = ((e.groups ≡ 0) × (s ≡ opening e)) ⊎ ((e.groups ≡ 0 → �
 -- what s asks of the page
 pub record Open (e s : RleEncoder) (out : List ℕ) : Type 0 where
   pub narrow : s.width ≤ key_width
-  pub inside : All (λ k. k < 2 ^ s.width) s.group
+  pub inside : AllByRecursion (λ k. k < 2 ^ s.width) s.group
   pub head : s.header < s.at
   pub groups_few : s.groups < 63
   pub room : s.at + s.width ≤ length out
@@ -52,8 +52,8 @@ pub record Open (e s : RleEncoder) (out : List ℕ) : Type 0 where
 group_is : (m : Writer) (e : RleEncoder) (out : List ℕ) → Stands m e out → Full m → e.group ≡ m.part
 group_is m e out h f = sym (take_all e.waiting e.group (omega (arith, h.eight, h.waiting_is, f.0))) ∙ h.waits
 
-group_inside : (m : Writer) (e : RleEncoder) (out : List ℕ) → Stands m e out → Full m → All (λ k. k < 2 ^ e.width) e.group
-group_inside m e out h f = subst (λ t. All (λ k. k < 2 ^ e.width) t) (sym (group_is m e out h f)) h.inside.1
+group_inside : (m : Writer) (e : RleEncoder) (out : List ℕ) → Stands m e out → Full m → AllByRecursion (λ k. k < 2 ^ e.width) e.group
+group_inside m e out h f = subst (λ t. AllByRecursion (λ k. k < 2 ^ e.width) t) (sym (group_is m e out h f)) h.inside.1
 
 -- the page with an open packed run, with a group more and without
 open_length : (w : ℕ) (rs : List Run) (gs : List (List ℕ)) (p : List ℕ)

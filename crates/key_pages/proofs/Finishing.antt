@@ -1,6 +1,6 @@
 -- The end of a page, and the keys of a whole page.
 use Rattle.std.proofs.Common.{◌≡◌, ℕ, zero, suc, ◌+◌, ◌-◌, ◌/◌, ◌^◌, ◌<◌, ◌≤◌, ◌⊎◌, List, [], ◌∷◌, ◌++◌, length, get_or, take, replicate, sym, refl, ap, ◌∙◌, subst, inl, inr, arith, length-append, pow_pos}
-use Rattle.std.specs.List.{AllByRecursion as All}
+use Rattle.std.specs.List.{AllByRecursion}
 use Rattle.std.proofs.lemmas.List.{take_all, take_more, length-take-le, nil_from_length}
 use Rattle.std.proofs.lemmas.Nat.{mul-le}
 use Rattle.std.proofs.ByRecursion.{All-append}
@@ -102,7 +102,7 @@ with_fill m = record { runs = m.runs; groups = m.groups; part = filled m.part; l
 abbrev pub Unlike : ℕ → RleEncoder → Type 0
 Unlike r e = (0 < e.waiting) × (e.groups ≡ 0 → r ≡ e.waiting → ⊥)
 
-zeros_inside : (w n : ℕ) → All (λ k. k < 2 ^ w) (replicate n 0)
+zeros_inside : (w n : ℕ) → AllByRecursion (λ k. k < 2 ^ w) (replicate n 0)
 zeros_inside w zero = tt
 zeros_inside w (suc n) = (pow_pos w, zeros_inside w n)
 

@@ -1,6 +1,6 @@
 -- Each key once, by marks of those that were seen.
 use Rattle.std.proofs.Common.{◌≡◌, ℕ, zero, suc, ◌+◌, ◌<◌, ◌≤◌, Bool, true, false, cond, ◌⊎◌, List, [], ◌∷◌, ◌++◌, length, get_or, take, drop, set, replicate, sym, refl, ap, ◌∙◌, subst, inl, inr, arith}
-use Rattle.std.specs.List.{ContainsAt as Has, AllByRecursion as All}
+use Rattle.std.specs.List.{ContainsAt as Has, AllByRecursion}
 use Rattle.std.proofs.ByRecursion.{has_append_left, has_push, has_push_cases, has_get_or, all-has, All-weaker}
 use Rattle.std.proofs.lemmas.List.{append_assoc, append-nil, get_or-set_same, get_or-set_other, get_or-take, length-set, length-take-le, length-replicate, drop-set-lt, drop-drop, get_or_default}
 use Rattle.std.proofs.lemmas.Bool.{cases_eq, both_ways}
@@ -157,7 +157,7 @@ adds all before seen n used key rest s h new fits =
 -- at the end
 
 pub ends : (all before : List ℕ) (seen : List Bool) (n : ℕ) (used : List ℕ) → Noted all before seen n used [] → n ≤ length used
-    → All (λ key. key < most_entries) all → ListsOnce all before n used
+    → AllByRecursion (λ key. key < most_entries) all → ListsOnce all before n used
 ends all before seen n used s fits below =
     let e : all ≡ s.done = s.whole ∙ append-nil s.done in
     record {
@@ -175,5 +175,5 @@ pub few_marks : (all before : List ℕ) (seen : List Bool) (n : ℕ) (used to-co
 few_marks all before seen n used to-come s = omega (arith, s.count, s.long, marks_le seen)
 
 -- the keys of an accepted page have marks
-pub below_most : (keys : List ℕ) (entries : ℕ) → entries ≤ most_entries → All (λ key. key < entries) keys → All (λ key. key < most_entries) keys
+pub below_most : (keys : List ℕ) (entries : ℕ) → entries ≤ most_entries → AllByRecursion (λ key. key < entries) keys → AllByRecursion (λ key. key < most_entries) keys
 below_most keys entries few inside = All-weaker (λ key. key < entries) (λ key. key < most_entries) (λ key lt. omega arith) keys inside

@@ -1,6 +1,6 @@
 -- Opening a page.
 use Rattle.std.proofs.Common.{◌≡◌, ℕ, ◌+◌, ◌-◌, ◌<◌, ◌≤◌, cond, ltb, ◌⊎◌, List, [], ◌∷◌, length, get_or, take, drop, Some, None, Ok, Err, Option, sym, refl, ap, ◌∙◌, subst, inl, inr, arith, length-drop}
-use Rattle.std.specs.List.{flat_map, AllByRecursion as All}
+use Rattle.std.specs.List.{flat_map, AllByRecursion}
 use Rattle.std.proofs.ByRecursion.{All-more, All-get_or}
 use Rattle.std.proofs.lemmas.List.{drop_more, take_all, length-take, length-take-le, length-append}
 use Rattle.std.proofs.lemmas.Bool.{cases_Bool, ltb-false, le-ltb}
@@ -92,7 +92,7 @@ ends_well s e h =
 pub record Passing (all : List ℕ) (entries number : ℕ) (rest : List ℕ) : Type 0 where
   pub within : number ≤ length all
   pub rest_is : rest ≡ drop number all
-  pub below : All (λ key. key < entries) (take number all)
+  pub below : AllByRecursion (λ key. key < entries) (take number all)
 
 pub passing_none : (all rest : List ℕ) (entries number : ℕ) → rest ≡ all → number ≡ 0 → Passing all entries number rest
 passing_none all rest entries number e z =
@@ -119,9 +119,9 @@ module _ (all : List ℕ) (entries number key : ℕ) (before rest : List ℕ) (p
     below = All-more (λ k. k < entries) all number 0 key_inside p.below (subst (λ x. x < entries) (sym key_here) small);
   })
 
-pub passing_end : (all : List ℕ) (entries number : ℕ) (before : List ℕ) → Passing all entries number before → before ≡ [] → All (λ key. key < entries) all
+pub passing_end : (all : List ℕ) (entries number : ℕ) (before : List ℕ) → Passing all entries number before → before ≡ [] → AllByRecursion (λ key. key < entries) all
 passing_end all entries number before p none =
-    subst (λ x. All (λ key. key < entries) x) (take_all number all (omega (arith, ap length none, simp length-drop at (ap length p.rest_is)))) p.below
+    subst (λ x. AllByRecursion (λ key. key < entries) x) (take_all number all (omega (arith, ap length none, simp length-drop at (ap length p.rest_is)))) p.below
 
 -- a `for` over the keys may count them
 pub keys_few : (s t : Keys) (number : ℕ) → t ≡ s → number ≡ 0 → number + length (keys_to_come t) ≤ s.left
@@ -158,7 +158,7 @@ pub not_outside : (page keys : List ℕ) (count entries k w : ℕ) (runs : List 
     → Accepted page count entries w runs → ⊥
 not_outside page keys count entries k w runs are out a =
     let e = are w runs a.meaning in
-    let s = subst (λ ks. All (λ key. key < entries) ks) (sym e) a.inside in
+    let s = subst (λ ks. AllByRecursion (λ key. key < entries) ks) (sym e) a.inside in
     let lt : get_or keys k 0 < entries = All-get_or (λ key. key < entries) keys k 0 out.inside s in
     omega (arith, lt, out.outside)
 
@@ -181,7 +181,7 @@ refuses_outside page keys count entries k f a b e are out is =
     (numbered KeyOutside k f is)
 
 pub accepts : (page keys : List ℕ) (count entries : ℕ) → count ≤ page_values → entries ≤ most_entries → (page_walk page count).fault ≡ None
-    → MeansKeys page count keys → All (λ key. key < entries) keys → (w : ℕ) × (runs : List ReadRun) × Accepted page count entries w runs
+    → MeansKeys page count keys → AllByRecursion (λ key. key < entries) keys → (w : ℕ) × (runs : List ReadRun) × Accepted page count entries w runs
 accepts page keys count entries a b e are all =
     let m = means_at page count e in (
       m.0,
@@ -189,7 +189,7 @@ accepts page keys count entries a b e are all =
       record {
         limits = record { few_values = a; few_entries = b };
         meaning = m.1;
-        inside = subst (λ ks. All (λ key. key < entries) ks) (are m.0 (page_walk page count).runs m.1) all;
+        inside = subst (λ ks. AllByRecursion (λ key. key < entries) ks) (are m.0 (page_walk page count).runs m.1) all;
       },
     )
 

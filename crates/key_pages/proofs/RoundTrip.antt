@@ -2,7 +2,7 @@
 use Rattle.std.proofs.Common.{◌≡◌, ℕ, zero, suc, ◌+◌, ◌-◌, ◌*◌, ◌/◌, ◌%◌, ◌^◌, ◌<◌, ◌≤◌, List, [], ◌∷◌, ◌++◌, length, get_or, take, drop, replicate, Ok, sym, refl, ap, ◌∙◌, subst, ap₂, mod-eq_of_lt, mul_assoc, add-mul, mul-add, arith, length-append, pow_mono}
 use native.Mathlib.Nat.{div-eq_of_lt, add-mul-mod_self_left, add-mul-div_left}
 use lib.ListN.{length-replicate}
-use Rattle.std.specs.List.{flat_map, AllByRecursion as All}
+use Rattle.std.specs.List.{flat_map, AllByRecursion}
 use Rattle.std.proofs.lemmas.List.{append-nil, append_assoc, take_at, drop_at, take_all, length_push}
 use Rattle.std.proofs.lemmas.Nat.{pow-add, pow_pos}
 use Rattle.std.proofs.lemmas.List.FromFn.{fill_by_all}
@@ -22,7 +22,7 @@ use Rattle.key_pages.specs.Meaning.{ReadRun, unpacked, run_length, run_values, H
 
 -- each key fits the width
 abbrev Small : ℕ → List ℕ → Type 0
-Small w vs = All (λ v. v < 2 ^ w) vs
+Small w vs = AllByRecursion (λ v. v < 2 ^ w) vs
 
 small_front : (w : ℕ) (xs ys : List ℕ) → Small w (xs ++ ys) → Small w xs
 small_front w [] ys h = tt
@@ -48,7 +48,7 @@ take-append (suc n) (x ∷ xs) ys = let e : suc n - suc (length xs) ≡ n - leng
 
 -- each group has eight keys
 abbrev Eights : List (List ℕ) → Type 0
-Eights gs = All (λ g. length g ≡ 8) gs
+Eights gs = AllByRecursion (λ g. length g ≡ 8) gs
 
 mixed_eights : (gs : List (List ℕ)) → Mixed gs → Eights gs
 mixed_eights [] m = tt

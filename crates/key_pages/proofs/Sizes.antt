@@ -1,7 +1,7 @@
 -- How long a page is at most.
 use Rattle.std.proofs.Common.{◌≡◌, ℕ, zero, suc, ◌+◌, ◌-◌, ◌*◌, ◌/◌, ◌<◌, ◌≤◌, ◌&&◌, eqb, ltb, leb, List, [], ◌∷◌, ◌++◌, length, drop, replicate, ap, ◌∙◌, inl, inr, add-mul, mul-add, arith, length-append, length-drop}
 use lib.ListN.{length-replicate}
-use Rattle.std.specs.List.{flat_map, AllByRecursion as All}
+use Rattle.std.specs.List.{flat_map, AllByRecursion}
 use Rattle.std.proofs.lemmas.List.{length_push, length-take-le}
 use Rattle.std.proofs.ByRecursion.{All-push}
 use Rattle.std.proofs.lemmas.Nat.{mul-le}
@@ -26,7 +26,7 @@ varint_le x = varint_in_le x x
 
 -- groups of eight keys
 abbrev pub Eights : List (List ℕ) → Type 0
-Eights gs = All (λ g. length g ≡ 8) gs
+Eights gs = AllByRecursion (λ g. length g ≡ 8) gs
 
 pub length-group : (w : ℕ) (g : List ℕ) → length g ≡ 8 → length (packed_bytes w g) ≡ w
 length-group w g h = packed_length w g ∙ rw h (omega arith)

@@ -1,6 +1,6 @@
 -- What the calls of the writer promise.
 use Rattle.std.specs.Prelude.{◌≡◌, ℕ, ◌+◌, ◌^◌, ◌<◌, ◌≤◌, ◌⊎◌, List, [], ◌∷◌, ◌++◌, length, replicate, Ok, Err, Result}
-use Rattle.std.specs.List.{AllByRecursion as All}
+use Rattle.std.specs.List.{AllByRecursion}
 use Rattle.page_format.specs.declared.fault.Fault.{Fault}
 use Rattle.page_format.specs.Faults.{Rejected}
 use Rattle.page_format.specs.Limits.{key_width, page_values}
@@ -32,7 +32,7 @@ MostOf w n (Err f) = OverLimit w n × Rejected {X = ℕ} 2 4 0 (Err f)
 pub record Writable (w : ℕ) (ks : List ℕ) (room : ℕ) : Type 0 where
   pub limited : WithinLimits w (length ks)
   pub room_is : 1 + most_bytes w (length ks) ≤ room
-  pub inside : All (λ k. k < 2 ^ w) ks
+  pub inside : AllByRecursion (λ k. k < 2 ^ w) ks
 
 -- why they have none, by the first that applies: number 2 above a limit, 9 for a short buffer, 12 for the first key that the width does not hold
 pub data Unwritable (w : ℕ) (ks : List ℕ) (room : ℕ) (r : Result ℕ Fault) : Type 0 where
@@ -70,4 +70,4 @@ worked =
     ∷ []
 
 abbrev pub WorkedPages : Type 0
-WorkedPages = All (λ x. page x.width x.keys ≡ x.bytes) worked
+WorkedPages = AllByRecursion (λ x. page x.width x.keys ≡ x.bytes) worked

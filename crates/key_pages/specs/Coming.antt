@@ -1,6 +1,6 @@
 -- What is still to come from a page, and how it comes.
 use Rattle.std.specs.Prelude.{◌≡◌, ℕ, ◌+◌, ◌-◌, ◌<◌, List, [], ◌∷◌, ◌++◌, take, drop, Some, None, Ok, Err, Option, Result}
-use Rattle.std.specs.List.{flat_map, AllByRecursion as All}
+use Rattle.std.specs.List.{flat_map, AllByRecursion}
 use Rattle.key_pages.specs.Meaning.{ReadRun, run_length, run_values, FirstOutside}
 use Rattle.key_pages.specs.Reading.{Step, a_run, no_run, read_run, Walk, walk}
 use Rattle.key_pages.specs.Views.{view}
@@ -66,5 +66,5 @@ InUse s (Some run) t = Using s run t
 
 -- the keys are all below the entries, or this is the first that is not
 abbrev pub Outside : List ℕ → ℕ → Option ℕ → Type 0
-Outside keys entries None = All (λ key. key < entries) keys
+Outside keys entries None = AllByRecursion (λ key. key < entries) keys
 Outside keys entries (Some k) = FirstOutside keys entries k

@@ -1,6 +1,6 @@
 -- What the run writer of the code holds, against the machine's.
 use Rattle.std.specs.Prelude.{◌≡◌, ℕ, ◌+◌, ◌^◌, ◌<◌, ◌≤◌, List, [], ◌∷◌, ◌++◌, length, take, drop}
-use Rattle.std.specs.List.{flat_map, AllByRecursion as All}
+use Rattle.std.specs.List.{flat_map, AllByRecursion}
 use Rattle.page_format.specs.Limits.{key_width, run_groups}
 use Rattle.key_pages.specs.Runs.{Run, run_bytes}
 use Rattle.key_pages.specs.Machine.{Writer, closed, full, joins, finish}
@@ -23,7 +23,7 @@ pub record Stands (m : Writer) (e : RleEncoder) (out : List ℕ) : Type 0 where
   pub waits : take e.waiting e.group ≡ m.part
   pub waiting_is : e.waiting ≡ length m.part
   pub last_is : e.last ≡ m.last
-  pub inside : All (λ k. k < 2 ^ e.width) (m.last ∷ m.part)
+  pub inside : AllByRecursion (λ k. k < 2 ^ e.width) (m.last ∷ m.part)
 
 -- the state has the count n, and tells whether it is eight or more
 abbrev pub Counts : State → ℕ → Type 0

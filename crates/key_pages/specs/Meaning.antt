@@ -1,7 +1,7 @@
 -- What a key page stands for, by Parquet's Encodings.md: one byte, the bit width, then runs until the count is reached.
 -- Nothing here speaks of our own writer.
 use Rattle.std.specs.Prelude.{◌≡◌, ℕ, ◌+◌, ◌-◌, ◌*◌, ◌<◌, ◌≤◌, List, [], ◌∷◌, map, length, take, drop, replicate, Ok, Err, slice_index}
-use Rattle.std.specs.List.{range_with_len, flat_map, AllByRecursion as All}
+use Rattle.std.specs.List.{range_with_len, flat_map, AllByRecursion}
 use Rattle.page_format.specs.Bits.{read_varint, le_number, packed_value, bytes_for}
 use Rattle.page_format.specs.Limits.{key_width}
 use Rattle.page_format.specs.declared.field.BadField.{BadField}
@@ -83,4 +83,4 @@ keys_of w count runs = take count (flat_map (run_values w) runs)
 pub record FirstOutside (keys : List ℕ) (entries k : ℕ) : Type 0 where
   pub inside : k < length keys
   pub outside : entries ≤ slice_index keys k
-  pub first : All (λ x. x < entries) (take k keys)
+  pub first : AllByRecursion (λ x. x < entries) (take k keys)

@@ -1,6 +1,6 @@
 -- What it is to open a key page.
 use Rattle.std.specs.Prelude.{◌≡◌, ℕ, ◌<◌, ◌≤◌, ◌⊎◌, List, length}
-use Rattle.std.specs.List.{AllByRecursion as All}
+use Rattle.std.specs.List.{AllByRecursion}
 use Rattle.page_format.specs.Faults.{Numbered}
 use Rattle.page_format.specs.Limits.{page_values, most_entries}
 use Rattle.page_format.specs.declared.fault.Fault.{Fault}
@@ -15,7 +15,7 @@ pub record WithinLimits (count entries : ℕ) : Type 0 where
 pub record Accepted (page : List ℕ) (count entries w : ℕ) (runs : List ReadRun) : Type 0 where
   pub limits : WithinLimits count entries
   pub meaning : Means page count w runs
-  pub inside : All (λ key. key < entries) (keys_of w count runs)
+  pub inside : AllByRecursion (λ key. key < entries) (keys_of w count runs)
 
 -- the tests in their order, and the fault of each
 pub data Refused (page : List ℕ) (count entries : ℕ) (f : Fault) : Type 0 where

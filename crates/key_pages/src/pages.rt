@@ -1,6 +1,6 @@
 // The calls that write key pages.
 ghost use Rattle.std.specs.Prelude.{◌≡◌, ◌+◌, ◌-◌, ◌^◌, ◌<◌, ◌≤◌, length, MatchOption};
-ghost use Rattle.std.specs.List.{AllByRecursion as All};
+ghost use Rattle.std.specs.List.{AllByRecursion};
 ghost use Rattle.page_format.specs.Bits.{BitsOf};
 ghost use Rattle.page_format.specs.Limits.{key_width, page_values};
 ghost use Rattle.page_format.specs.Writes.{Wrote};
@@ -38,7 +38,7 @@ pub fn max_buffer_size(width: usize, count: usize) -> Result<usize, Fault>
 // The number of the first key that `width` bits do not hold.
 fn first_outside(width: usize, keys: &[u32]) -> Option<usize>
     requires { width ≤ key_width }
-    ensures first { MatchOption result (All (λ k. k < 2 ^ width) keys.now) (λ i. FirstOutside keys.now (2 ^ width) i) }
+    ensures first { MatchOption result (AllByRecursion (λ k. k < 2 ^ width) keys.now) (λ i. FirstOutside keys.now (2 ^ width) i) }
 {
     let bound: u64 = 1 << width;
     for (i, key) in keys.iter().enumerate() {
@@ -53,7 +53,7 @@ fn first_outside(width: usize, keys: &[u32]) -> Option<usize>
 fn write_runs(out: &mut [u8], width: usize, keys: &[u32]) -> usize
     requires narrow { width ≤ key_width }
     requires few { length keys.now ≤ page_values }
-    requires inside { All (λ k. k < 2 ^ width) keys.now }
+    requires inside { AllByRecursion (λ k. k < 2 ^ width) keys.now }
     requires room { 1 + most_bytes width (length keys.now) ≤ length out.old }
     ensures wrote { Wrote (page width keys.now) 0 out.old result out.new }
 {

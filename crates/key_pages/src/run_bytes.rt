@@ -1,6 +1,6 @@
 // The bytes of a repeat run and of a group.
 ghost use Rattle.std.specs.Prelude.{◌≡◌, ◌+◌, ◌^◌, ◌<◌, ◌≤◌, length, take};
-ghost use Rattle.std.specs.List.{AllByRecursion as All};
+ghost use Rattle.std.specs.List.{AllByRecursion};
 ghost use Rattle.page_format.specs.Bits.{packed_bytes};
 ghost use Rattle.page_format.specs.Limits.{key_width};
 ghost use Rattle.page_format.specs.Writes.{Wrote};
@@ -22,7 +22,7 @@ pub(crate) fn put_repeat(out: &mut [u8], at: usize, width: usize, count: usize, 
 // Writes the `width` bytes of a group at `at`, and returns the place behind them.
 pub(crate) fn put_group(out: &mut [u8], at: usize, width: usize, group: [u64; 8]) -> usize
     requires narrow { width ≤ key_width }
-    requires inside { All (λ k. k < 2 ^ width) group }
+    requires inside { AllByRecursion (λ k. k < 2 ^ width) group }
     requires room { at + width ≤ length out.old }
     ensures wrote { Wrote (packed_bytes width group) at out.old result out.new }
 {

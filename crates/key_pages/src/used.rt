@@ -1,6 +1,6 @@
 // The keys that a page uses, each once.
 ghost use Rattle.std.specs.Prelude.{◌≡◌, ℕ, ◌<◌, ◌≤◌, List, length};
-ghost use Rattle.std.specs.List.{AllByRecursion as All};
+ghost use Rattle.std.specs.List.{AllByRecursion};
 ghost use Rattle.page_format.specs.Faults.{Rejected};
 ghost use Rattle.page_format.specs.Limits.{most_entries};
 ghost use Rattle.key_pages.specs.Coming.{keys_to_come};
@@ -15,7 +15,7 @@ use page_format::{Fault, MAX_ENTRIES, Rejection};
 // Lists the keys in order of first use. Those of a page that was opened are all below the limit.
 fn list_keys(keys: Keys<'_>, used: &mut [u32]) -> usize
     requires room { most_entries ≤ length used.old }
-    ensures once { All (λ key. key < most_entries) (keys_to_come keys.entry) → ListsOnce (keys_to_come keys.entry) used.old result used.new }
+    ensures once { AllByRecursion (λ key. key < most_entries) (keys_to_come keys.entry) → ListsOnce (keys_to_come keys.entry) used.old result used.new }
 {
     let mut seen = [false; MAX_ENTRIES];
     let mut number = 0;

@@ -1,6 +1,6 @@
 -- A PLAIN page has one reading at most, and is as long as the forms of its values.
 use Rattle.std.proofs.Common.{◌≡◌, ◌+◌, List, [], ◌∷◌, ◌++◌, length, take, drop, sum_by, sym, refl, ap, ◌∙◌, arith}
-use Rattle.std.specs.List.{AllByRecursion as All}
+use Rattle.std.specs.List.{AllByRecursion}
 use Rattle.std.proofs.lemmas.List.{append_assoc, length-append, take_at, drop_at}
 use Rattle.std.proofs.lemmas.List.Sums.{sum_by-cons}
 use Rattle.page_format.specs.Bits.{le_bytes, le_number}
@@ -27,7 +27,7 @@ same_first ByteStrings v w xs ys fv fw e =
     same_parts v w xs ys long heads.1
 same_first (Fixed w) v u xs ys fv fu e = same_parts v u xs ys (fv ∙ sym fu) e
 
-same_values : (c : Column) (vs ws : List Bytes) → length vs ≡ length ws → All (PlainValue c) vs → All (PlainValue c) ws → plain_page c vs ≡ plain_page c ws → vs ≡ ws
+same_values : (c : Column) (vs ws : List Bytes) → length vs ≡ length ws → AllByRecursion (PlainValue c) vs → AllByRecursion (PlainValue c) ws → plain_page c vs ≡ plain_page c ws → vs ≡ ws
 same_values c [] [] l av aw e = refl
 same_values c [] (w ∷ ws) l av aw e = absurd (omega arith)
 same_values c (v ∷ vs) [] l av aw e = absurd (omega arith)

@@ -1,7 +1,7 @@
 -- PLAIN, from Parquet's Encodings.md: a byte string is its length in four bytes, the lowest first, and then its bytes;
 -- a value of a fixed width is its bytes. A page is its values one after another, and its reader is told how many.
 use Rattle.std.specs.Prelude.{◌≡◌, ℕ, ◌^◌, ◌<◌, cond, List, [], ◌++◌, length, ◌==◌, nat_lt}
-use Rattle.std.specs.List.{flat_map, AllByRecursion as All}
+use Rattle.std.specs.List.{flat_map, AllByRecursion}
 use Rattle.page_format.specs.Bits.{le_bytes}
 use Rattle.page_format.specs.Faults.{Told, answered, rejected}
 use Rattle.page_format.specs.Limits.{fixed_width}
@@ -34,7 +34,7 @@ plain_page c vs = flat_map (plain_form c) vs
 -- the page with this count, read as PLAIN, is these values
 pub record ReadsPlain (c : Column) (page : Bytes) (count : ℕ) (vs : List Bytes) : Type 0 where
   pub counted : length vs ≡ count
-  pub values : All (PlainValue c) vs
+  pub values : AllByRecursion (PlainValue c) vs
   pub whole : page ≡ plain_page c vs
 
 -- a page has one reading at most

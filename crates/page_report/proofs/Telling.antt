@@ -1,7 +1,7 @@
 -- How what the readers and the writer promise makes a report.
 use Rattle.std.proofs.Common.{◌≡◌, ℕ, ◌+◌, ◌-◌, ◌^◌, ◌<◌, ◌≤◌, Bool, List, [], ◌∷◌, ◌++◌, length, take, Ok, Err, codes, Decides, Result, sym, ap, ◌∙◌, subst, ap₂, inl, inr, arith, length-take}
 use mathlib.Core.Path.{subst₃}
-use Rattle.std.specs.List.{flat_map, ContainsAt as Has, AllByRecursion as All}
+use Rattle.std.specs.List.{flat_map, ContainsAt as Has, AllByRecursion}
 use Rattle.std.proofs.ByRecursion.{All-get_or}
 use Rattle.std.proofs.lemmas.List.{append_assoc, length-take-le, get_or-take}
 use Rattle.page_format.specs.Bits.{BitsOf}
@@ -56,17 +56,17 @@ pub decides_makes : (w : ℕ) (keys own bytes : List ℕ) (b : Bool) → Makes w
 decides_makes w keys own bytes b m d = ((λ t. subst (λ x. Makes w keys x) (d.0 t) m), (λ n. d.1 (sym m.is ∙ n.is)))
 
 -- keys below the entries fit the width that our writer has for them, which is within the limits
-all_under : (keys : List ℕ) (entries top : ℕ) → entries ≤ top → All (λ k. k < entries) keys → All (λ k. k < top) keys
+all_under : (keys : List ℕ) (entries top : ℕ) → entries ≤ top → AllByRecursion (λ k. k < entries) keys → AllByRecursion (λ k. k < top) keys
 all_under [] entries top h a = tt
 all_under (k ∷ keys) entries top h a = (omega (arith, a.0), all_under keys entries top h a.1)
 
-pub own_limits : (w entries : ℕ) (keys : List ℕ) → BitsOf (entries - 1) w → entries ≤ most_entries → length keys ≤ page_values → All (λ k. k < entries) keys
-    → WithinLimits w (length keys) × All (λ k. k < 2 ^ w) keys
+pub own_limits : (w entries : ℕ) (keys : List ℕ) → BitsOf (entries - 1) w → entries ≤ most_entries → length keys ≤ page_values → AllByRecursion (λ k. k < entries) keys
+    → WithinLimits w (length keys) × AllByRecursion (λ k. k < 2 ^ w) keys
 own_limits w entries keys b few many inside =
     ((omega (arith, b.least 12 (omega arith)), many), all_under keys entries (2 ^ w) (omega (arith, b.fits)) inside)
 
 -- whether our writer makes the same bytes, where the keys are within its limits
-decides_same : (w : ℕ) (keys bytes : List ℕ) (b : Bool) → WithinLimits w (length keys) → All (λ k. k < 2 ^ w) keys → Decides b (Makes w keys bytes) → Decides b (page w keys ≡ bytes)
+decides_same : (w : ℕ) (keys bytes : List ℕ) (b : Bool) → WithinLimits w (length keys) → AllByRecursion (λ k. k < 2 ^ w) keys → Decides b (Makes w keys bytes) → Decides b (page w keys ≡ bytes)
 decides_same w keys bytes b limited fits d = ((λ t. (d.0 t).is), (λ e. d.1 (record { limited = limited; fits = fits; is = e })))
 
 length-keys : (w count : ℕ) (runs : List ReadRun) → length (keys_of w count runs) ≤ count

@@ -1,7 +1,7 @@
 -- What a report says of a text.
 use Rattle.std.specs.Prelude.{◌≡◌, ℕ, ◌-◌, ◌^◌, ◌<◌, Bool, List, ◌++◌, length, Some, None, vec_items, codes, Decides, Option, Vec, ◌≢◌, slice_index}
 use Rattle.std.specs.declared.alloc.Global.{Global}
-use Rattle.std.specs.List.{flat_map, ContainsAt as Has, AllByRecursion as All}
+use Rattle.std.specs.List.{flat_map, ContainsAt as Has, AllByRecursion}
 use Rattle.page_format.specs.Bits.{BitsOf}
 use Rattle.page_format.specs.declared.fault.Fault.{Fault}
 use Rattle.page_text.specs.Requests.{Says, Short, Fault as TextFault}
@@ -21,7 +21,7 @@ pub record Once (keys used : List ℕ) : Type 0 where
 -- our writer makes these bytes of these keys at width w
 pub record Makes (w : ℕ) (keys bytes : List ℕ) : Type 0 where
   pub limited : WithinLimits w (length keys)
-  pub fits : All (λ k. k < 2 ^ w) keys
+  pub fits : AllByRecursion (λ k. k < 2 ^ w) keys
   pub is : page w keys ≡ bytes
 
 -- the page that our writer makes of these keys, or none where it makes none

@@ -1,13 +1,13 @@
 -- `before` and `behind`: a text is cut at its first s. Assumes nothing.
 use Rattle.std.proofs.Common.{◌≡◌, ℕ, ◌+◌, ◌<◌, ◌≤◌, true, false, eqb, ◌⊎◌, List, [], ◌∷◌, ◌++◌, length, get_or, take, drop, sym, refl, ap, ◌∙◌, inl, inr, ⊎_elim, arith}
-use Rattle.std.specs.List.{AllByRecursion as All}
+use Rattle.std.specs.List.{AllByRecursion}
 use Rattle.std.proofs.lemmas.List.{append-nil, append_assoc, nil_from_length, take_more, drop_more, take_all, drop_all}
 use Rattle.std.proofs.lemmas.Bool.{eq-eqb, ne_eqb, eqb-true, eqb-false, cases_eq}
 use Rattle.page_text.specs.Lines.{before, behind}
 
 -- no byte of xs is s
 abbrev pub Lacks : ℕ → List ℕ → Type 0
-Lacks s xs = All (λ b. b ≡ s → ⊥) xs
+Lacks s xs = AllByRecursion (λ b. b ≡ s → ⊥) xs
 
 -- one byte on
 before_found : (s b : ℕ) (bs : List ℕ) → b ≡ s → before s (b ∷ bs) ≡ []

@@ -1,6 +1,6 @@
 -- The lines of a request, as they are written. Assumes nothing.
 use Rattle.std.specs.Prelude.{◌≡◌, ℕ, ◌+◌, ◌/◌, ◌%◌, ◌^◌, ◌<◌, cond, List, [], ◌∷◌, ◌++◌, codes, decimal, nat_lt}
-use Rattle.std.specs.List.{AllByRecursion as All}
+use Rattle.std.specs.List.{AllByRecursion}
 
 -- 0 to 9, then A to F
 abbrev pub hex_digit : ℕ → ℕ
@@ -12,7 +12,7 @@ hex [] = []
 hex (b ∷ bs) = hex_digit (b / 16) ∷ (hex_digit (b % 16) ∷ hex bs)
 
 abbrev pub Bytes : List ℕ → Type 0
-Bytes bs = All (λ b. b < 256) bs
+Bytes bs = AllByRecursion (λ b. b < 256) bs
 
 -- page E N :HEX, for the encoding e, the count n of values, and the page's bytes
 unfoldable pub page_line : ℕ → ℕ → List ℕ → List ℕ

@@ -1,5 +1,5 @@
 use Rattle.std.proofs.Common.{◌≡◌, ◌*◌, ◌%◌, ◌^◌, ◌<◌, subst, arith}
-use Rattle.std.specs.List.{AllByRecursion as All}
+use Rattle.std.specs.List.{AllByRecursion}
 use Rattle.std.proofs.lemmas.Nat.{one_shl}
 use Rattle.std.proofs.lemmas.List.{take_all}
 use Rattle.std.proofs.ByRecursion.{All-more}
@@ -20,4 +20,4 @@ loop-i-preserved c =
 
 pub returns : goal.returns
 returns c = record
-    { first = subst (λ t. All (λ k. k < 2 ^ c.args.width) t) (take_all c.loop-i.i c.args.keys.now c.loop-i-test.false) c.loop-i.invariant }
+    { first = subst (λ t. AllByRecursion (λ k. k < 2 ^ c.args.width) t) (take_all c.loop-i.i c.args.keys.now c.loop-i-test.false) c.loop-i.invariant }

@@ -1,5 +1,5 @@
 use Rattle.std.proofs.Common.{◌<◌, sym, subst, arith}
-use Rattle.std.specs.List.{AllByRecursion as All}
+use Rattle.std.specs.List.{AllByRecursion}
 use Rattle.page_format.specs.Limits.{most_entries}
 use Rattle.key_pages.specs.Listing.{ListsOnce}
 use Rattle.key_pages.proofs.Noting.{below_most}
@@ -12,5 +12,5 @@ returns c = record {
       let e = c.keys.ensures.keys w runs a.meaning in
       let below = below_most _ c.args.self.now.entries a.limits.few_entries a.inside in
       subst (λ ks. ListsOnce ks c.args.used.now c.list_keys.result c.list_keys.new.used) e
-      (c.list_keys.ensures.once (subst (λ ks. All (λ key. key < most_entries) ks) (sym e) below));
+      (c.list_keys.ensures.once (subst (λ ks. AllByRecursion (λ key. key < most_entries) ks) (sym e) below));
 }
