@@ -1,7 +1,7 @@
 #!/usr/bin/env python3
 """Brings the names of this repository's own definitions and lemmas to today's spelling.
 
-Run once, at the top of the repository, after /opt/rattle/port/port.py:
+Run once, at the top of the repository, after the kit's own script:
 
     python3 tools/spell.py [--list]
 

@@ -99,8 +99,8 @@ count_none : (n : ℕ) → count_by (λ x. ltb 0 x) (replicate n 0) ≡ 0
 count_none zero = refl
 count_none (suc n) = count_none n
 
-getD-none : (n i : ℕ) → ◌≡◌ {A = ℕ} (get_or (replicate n 0) i 0) 0
-getD-none n i = elim (cases_lt i n) [ inl l ↦ get_or-replicate n i 0 0 l | inr g ↦ get_or_past (replicate n 0) i 0 (omega (arith, length-replicate {A = ℕ} n 0)) ]
+get_or-none : (n i : ℕ) → ◌≡◌ {A = ℕ} (get_or (replicate n 0) i 0) 0
+get_or-none n i = elim (cases_lt i n) [ inl l ↦ get_or-replicate n i 0 0 l | inr g ↦ get_or_past (replicate n 0) i 0 (omega (arith, length-replicate {A = ℕ} n 0)) ]
 
 -- no entries, and every slot empty
 pub sound_none : (hash : Bytes → ℕ) (es : List Bytes) (n : ℕ) → n ≡ table_slots → es ≡ [] → Sound hash es (replicate n 0)
@@ -108,7 +108,7 @@ sound_none hash es n e none =
     let no : length es ≡ 0 = ap length none in
     record {
       long = length-replicate {A = ℕ} n 0 ∙ e;
-      named = λ i. omega (arith, getD-none n i);
+      named = λ i. omega (arith, get_or-none n i);
       reached = λ k lt. absurd (omega arith);
       few = omega (arith, count_none n);
       distinct = λ i k lt l q. omega arith;

@@ -49,8 +49,8 @@ lawful c m = record {
 pub length-stored : (bytes : Bytes) (table : List Entry) (count : ℕ) → count ≤ length table → length (stored bytes table count) ≡ count
 length-stored bytes table count le = length-map (take count table) (standing bytes) ∙ length-take-le count table le
 
-pub getD-stored : (bytes : Bytes) (table : List Entry) (count k : ℕ) → count ≤ length table → k < count → (d : Bytes) → slice_index_or (stored bytes table count) k d ≡ standing bytes (slice_index_or table k no_entry)
-getD-stored bytes table count k le lt d =
+pub get_or-stored : (bytes : Bytes) (table : List Entry) (count k : ℕ) → count ≤ length table → k < count → (d : Bytes) → slice_index_or (stored bytes table count) k d ≡ standing bytes (slice_index_or table k no_entry)
+get_or-stored bytes table count k le lt d =
     get_or-map (standing bytes) (take count table) k no_entry d (omega (arith, length-take-le count table le))
     ∙ ap (standing bytes) (get_or-take count table k no_entry lt)
 
@@ -85,11 +85,11 @@ same_stored bytes bytes' table count used le inside same =
     (λ k d lt.
     let l : k < count = omega (arith, length-stored bytes table count le) in
     let e = get_or table k no_entry in
-    getD-stored bytes table count k le l d
+    get_or-stored bytes table count k le l d
     ∙ standing_is bytes e used (inside k l)
     ∙ ap (λ t. drop e.start (take (e.start + e.len) t)) same
     ∙ sym (standing_is bytes' e used (inside k l))
-    ∙ sym (getD-stored bytes' table count k le l d))
+    ∙ sym (get_or-stored bytes' table count k le l d))
 
 -- what a store is after one more entry: the fields of the store, its entries and its memory
 pub record Grown (c : Column) (bytes v : Bytes) (es : List Bytes) (bytes' : Bytes) (table' : List Entry) (count' used' m : ℕ) : Type 0 where
@@ -175,4 +175,4 @@ module _ (c : Column) (bytes bytes' v : Bytes) (table : List Entry) (count used 
   -- the same where memory and element are known by equations
   pub grown : plain_suits c v ≡ true → AllSuit c es → take used bytes ≡ plain_page c es
       → (held : Bytes) (e : Entry) → held ≡ bytes' → e ≡ added → Grown c bytes v es held (slice_set table count e) (count + 1) (start + length v) m
-  grown s all laid held e is_held_lem is-e = rw (is_held_lem, is-e) (more s all laid)
+  grown s all laid held e is_held is_e = rw (is_held, is_e) (more s all laid)

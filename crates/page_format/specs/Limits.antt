@@ -21,7 +21,7 @@ array_values = 1048576
 abbrev pub data_bytes : ℕ
 data_bytes = 2147483647
 
--- bytes in a value of a fixed_width column
+-- bytes in a value of a fixed-width column
 abbrev pub fixed_width : ℕ
 fixed_width = 64
 

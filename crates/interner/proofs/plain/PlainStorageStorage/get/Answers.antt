@@ -1,7 +1,7 @@
 use Rattle.std.proofs.Common.{◌≡◌, ◌+◌, ◌-◌, [], get_or, take, drop, sym, ap, ◌∙◌, arith}
 use Rattle.interner.specs.Layouts.{no_entry}
 use Rattle.interner.proofs.Holding.{count_of, table_of}
-use Rattle.interner.specs.Laying.{getD-stored}
+use Rattle.interner.specs.Laying.{get_or-stored}
 use Rattle.interner.proofs.plain.PlainStorageStorage.get.Goals as goal
 
 pub returns-then-key-self : goal.returns-then-key-self
@@ -13,7 +13,7 @@ returns c =
     let e = get_or s.table c.args.key no_entry in
     let n : e.start + e.len - e.start ≡ e.len = omega arith in (
       omega (arith, count_of s),
-      getD-stored s.bytes.items s.table s.count c.args.key (table_of s) c.if-key-self.false []
+      get_or-stored s.bytes.items s.table s.count c.args.key (table_of s) c.if-key-self.false []
           ∙ ap (λ t. take t (drop e.start s.bytes.items)) (sym n)
           ∙ ap (λ t. take (e.start + e.len - e.start) (drop e.start t)) (sym c.deref.ensures.value),
     )
