@@ -31,5 +31,5 @@ c 6b 'truncate|as_mut_slice'
 # 7: steps that are chosen by a text
 c 7a 'match kind|match words|match opened|== "|ends_with|starts_with|strip_prefix\("= '
 # 8: lines of proofs/, and of answers
-[ -z "$only" ] && printf '8a %s\n8b %s\n' "$(find crates -path '*/proofs/*.antt' -exec cat {} + | wc -l)" "$(find crates -name Answers.antt -exec cat {} + | wc -l)"
+[ -z "$only" ] && printf '8a %s\n8b %s\n' "$(git ls-files 'crates/*/proofs/*.antt' | xargs cat | wc -l)" "$(git ls-files 'crates/*Answers.antt' | xargs cat | wc -l)"
 exit 0

@@ -1,5 +1,3 @@
-pub mod Numbering
 pub mod Deciding
 pub mod Cutting
-pub mod Stepping
-pub mod Naming
+pub mod Values

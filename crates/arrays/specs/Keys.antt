@@ -1,5 +1,5 @@
 -- Arrays whose values are named by keys to the values of another array.
-use Rattle.std.specs.Prelude.{ℕ, ◌<◌, ◌≤◌, List, [], map, length, ℤ, pos, negsuc, ◌≤ℤ◌, ◌<ℤ◌, slice_index_or}
+use Rattle.std.specs.Prelude.{ℕ, ◌<◌, List, [], map, length, ℤ, pos, negsuc, ◌≤ℤ◌, ◌<ℤ◌, slice_index_or}
 use Rattle.page_format.specs.Limits.{most_entries}
 use Rattle.arrays.specs.Numbers.{number_at}
 use Rattle.arrays.specs.Opening.{Rules}
@@ -18,10 +18,6 @@ key_rules ks n =
       rule = λ j. KeyNames (number_at ks j) n;
       count = length ks;
     }
-
--- within the limit, whatever the array below
-abbrev pub FewKeys : List ℤ → Type 0
-FewKeys ks = length ks ≤ most_entries
 
 -- the value that a key names, and the empty string where it names none
 abbrev pub key_value : List Bytes → ℤ → Bytes

@@ -19,7 +19,3 @@ number_at ns j = slice_index_or ns j (pos 0)
 abbrev pub NamedAt : List ℤ → ℕ → Option ℕ → Type 0
 NamedAt ns j None = j < length ns → pos 0 ≤ℤ number_at ns j → ⊥
 NamedAt ns j (Some place) = (j < length ns) × (number_at ns j ≡ pos place)
-
--- no number is below 0
-abbrev pub FromZero : List ℤ → Type 0
-FromZero ns = (j : ℕ) → j < length ns → pos 0 ≤ℤ number_at ns j

@@ -1,17 +1,10 @@
 -- Arrays whose values stand one after another, cut by offsets.
-use Rattle.std.specs.Prelude.{◌≡◌, ℕ, ◌+◌, ◌-◌, ◌<◌, ◌≤◌, ◌⊎◌, List, map, length, ℤ, pos, ◌≤ℤ◌, Some, None, vec_items, Option}
+use Rattle.std.specs.Prelude.{◌≡◌, ℕ, ◌+◌, ◌-◌, ◌<◌, ◌≤◌, ◌⊎◌, List, map, length, ℤ, pos, ◌≤ℤ◌, Some, None, Option}
 use Rattle.std.specs.List.{between, range_with_len}
 use Rattle.page_format.specs.Limits.{array_values, data_bytes}
-use Rattle.arrays.specs.declared.offset_buffer.Offsets.{Offsets}
-use Rattle.arrays.specs.declared.offset_buffer.Offsets.TheVariants.{Short, Long}
 use Rattle.arrays.specs.Opening.{Rules}
 use Rattle.arrays.specs.Numbers.{number_at, place_of}
 use Rattle.page_format.specs.Plain.{Bytes}
-
--- the numbers that offsets are, at either width
-abbrev pub numbers : Offsets → List ℤ
-numbers (Short offsets) = vec_items offsets
-numbers (Long offsets) = vec_items offsets
 
 -- offset j starts at 0 or above, does not fall, and does not pass the data's end
 abbrev pub OffsetRule : List ℤ → ℕ → ℕ → Type 0

@@ -1,4 +1,4 @@
-// What every array answers.
+//! What every array answers.
 ghost use Rattle.std.specs.Prelude.{◌≡◌, ◌≤◌, List, length};
 ghost use Rattle.page_format.specs.Limits.{array_values};
 ghost use Rattle.page_format.specs.Plain.{Bytes};

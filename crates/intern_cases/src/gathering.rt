@@ -1,141 +1,157 @@
-// `gather KIND :HEX :HEX .. / I I ..`: the values as an array of that kind, and of these the ones that the indices name, interned one by one.
-// The answer is the page of their keys, and the number of entries with their page. It is asked for under each hash.
-use crate::words::{bytes, fault_text, part};
-use arrays::{ArrayAccessor, BinaryArray, DictionaryArray, FixedSizeBinaryArray, Offsets};
-use interner::{Fnv1a, Interner, KeyHash, PlainStorage, SeededFnv1a, Storage, ZeroHash};
+//! `gather KIND :HEX :HEX .. / I I ..`: the values as an array of that kind, and of these the ones that the indices name, interned one by one.
+//! The answer is the page of their keys, and the number of entries with their page. It is asked for under each hash.
+use crate::unanswered::answer_text;
+use crate::words::{bytes, numbers, part};
+use arrays::{ArrayAccessor, ArrowNativeType, BinaryArray, DictionaryArray, FixedSizeBinaryArray};
+use interner::{Fnv1a, Interner, KeyHash, PlainStorage, Storage, ZeroHash};
 use key_pages::key_width;
-use page_format::{Column, Fault};
-use page_report::own_page;
-use page_text::push_hex;
+use page_format::Column;
+use page_report::{Failure, own_page};
+use page_text::Hex;
 use std::alloc::{AllocError, Global};
+use std::iter;
 
-// The values of a command, one after another, with their offsets.
-#[derive(Drop)]
-struct Listing {
-    data: Vec<u8>,
-    offsets: Vec<i64>,
-    // the length of the last one
-    width: usize,
+// What the values become: `b32`, `b64`, or a dictionary on these, `dict`, `dict64`, or on an array of one width, `dictfix`.
+#[derive(Clone, Copy)]
+enum Kind {
+    Binary32,
+    Binary64,
+    Dictionary32,
+    Dictionary64,
+    FixedDictionary,
 }
 
-fn values(heap: Global, command: &str) -> Result<Listing, AllocError> {
-    let mut values = Listing {
-        data: Vec::new(heap),
-        offsets: Vec::new(heap),
-        width: 0,
+// Of any other word the first letter and the end say what it counts as.
+impl From<&str> for Kind {
+    fn from(word: &str) -> Kind {
+        if word == "dictfix" {
+            return Kind::FixedDictionary;
+        }
+        match (word.starts_with("b"), word.ends_with("64")) {
+            (true, false) => Kind::Binary32,
+            (true, true) => Kind::Binary64,
+            (false, false) => Kind::Dictionary32,
+            (false, true) => Kind::Dictionary64,
+        }
+    }
+}
+
+pub(crate) fn gather_answer(alloc: Global, command: &str) -> Result<String, Failure> {
+    let kind = Kind::from(command.split_whitespace().nth(1).unwrap_or(""));
+    let values: Vec<Vec<u8>> = part(command, 0)
+        .skip(2)
+        .map(|word| bytes(alloc, word))
+        .try_collect(alloc)?;
+    let indices = numbers(alloc, part(command, 1))?;
+    let text = match kind {
+        Kind::Binary32 => gathered(alloc, &binary::<i32>(alloc, &values)?, &indices)?,
+        Kind::Binary64 => gathered(alloc, &binary::<i64>(alloc, &values)?, &indices)?,
+        Kind::Dictionary32 => in_dictionary(alloc, binary::<i32>(alloc, &values)?, &indices)?,
+        Kind::Dictionary64 => in_dictionary(alloc, binary::<i64>(alloc, &values)?, &indices)?,
+        Kind::FixedDictionary => in_dictionary(alloc, fixed(alloc, &values)?, &indices)?,
     };
-    values.offsets.push(0)?;
-    for word in part(command, 0).skip(2) {
-        let value = bytes(heap, Some(word))?;
-        values.data.extend_from_slice(value.as_slice())?;
-        values.offsets.push(values.data.len() as i64)?;
-        values.width = value.len();
-    }
-    Ok(values)
+    Ok(text)
 }
 
-fn shortened(heap: Global, offsets: &[i64]) -> Result<Vec<i32>, AllocError> {
-    let mut short = Vec::new(heap);
-    for offset in offsets {
-        short.push(i32::try_from(*offset).unwrap_or(0))?;
-    }
-    Ok(short)
+// Where each value begins, one behind another, and where the last one ends. A place that the type lacks counts as 0.
+fn offsets<O>(alloc: Global, values: &[Vec<u8>]) -> Result<Vec<O>, AllocError>
+where
+    O: TryFrom<usize> + Default + Drop,
+    O::Error: Drop,
+{
+    let ends = values.iter().scan(0usize, |end, value| {
+        *end = end.saturating_add(value.len());
+        Some(*end)
+    });
+    iter::once(0)
+        .chain(ends)
+        .map(|end| O::try_from(end).unwrap_or_default())
+        .collect(alloc)
 }
 
-fn counting(heap: Global, count: usize) -> Result<Vec<i32>, AllocError> {
-    let mut numbers = Vec::new(heap);
-    for i in 0..count {
-        numbers.push(i32::try_from(i).unwrap_or(0))?;
-    }
-    Ok(numbers)
+fn binary<O>(alloc: Global, values: &[Vec<u8>]) -> Result<BinaryArray<O>, Failure>
+where
+    O: ArrowNativeType + TryFrom<usize> + Default,
+    O::Error: Drop,
+{
+    let offsets = offsets(alloc, values)?;
+    Ok(BinaryArray::open(offsets, values.concat(alloc)?)?)
 }
 
-pub fn gather_answer(heap: Global, command: &str) -> anyhow::Result<String> {
-    let kind = command.split_whitespace().nth(1).unwrap_or("");
-    let Listing {
-        data,
-        offsets,
-        width,
-    } = values(heap, command)?;
-    let mut indices = Vec::new(heap);
-    for word in part(command, 1) {
-        indices.push(word.parse::<usize>().unwrap_or(0))?;
-    }
-    let indices = indices.as_slice();
-    if kind == "dictfix" {
-        return match FixedSizeBinaryArray::open(width, data) {
-            Ok(below) => in_dictionary(heap, below, indices),
-            Err(fault) => Ok(fault_text(heap, fault)?),
-        };
-    }
-    let offsets = if kind.ends_with("64") {
-        Offsets::Long(offsets)
-    } else {
-        Offsets::Short(shortened(heap, offsets.as_slice())?)
-    };
-    let opened = BinaryArray::open(offsets, data);
-    if kind.starts_with("b") {
-        return told(heap, opened, indices);
-    }
-    match opened {
-        Ok(below) => in_dictionary(heap, below, indices),
-        Err(fault) => Ok(fault_text(heap, fault)?),
-    }
+// All at the width of the last one.
+fn fixed(alloc: Global, values: &[Vec<u8>]) -> Result<FixedSizeBinaryArray, Failure> {
+    let width = values.last().map_or(0, |value| value.len());
+    Ok(FixedSizeBinaryArray::open(width, values.concat(alloc)?)?)
 }
 
+// The answer over a dictionary with a key to each value.
 fn in_dictionary<A: ArrayAccessor + Drop>(
-    heap: Global,
+    alloc: Global,
     below: A,
     indices: &[usize],
-) -> anyhow::Result<String> {
-    let keys = counting(heap, below.len())?;
-    told(heap, DictionaryArray::open(below, keys), indices)
+) -> Result<String, Failure> {
+    let keys = (0..below.len()).map(|place| place as i32).collect(alloc)?;
+    Ok(gathered(alloc, &DictionaryArray::open(below, keys)?, indices)?)
 }
 
-fn told<A: ArrayAccessor + Drop>(
-    heap: Global,
-    opened: Result<A, Fault>,
+// The answer, if each hash gives the same, the text of a fault as well.
+fn gathered<A: ArrayAccessor>(
+    alloc: Global,
+    array: &A,
     indices: &[usize],
-) -> anyhow::Result<String> {
-    let array = match opened {
-        Ok(array) => array,
-        Err(fault) => return Ok(fault_text(heap, fault)?),
-    };
-    let text = interned(heap, Fnv1a, &array, indices)?;
-    let seeded = interned(heap, SeededFnv1a { seed: 7 }, &array, indices)?;
-    let zero = interned(heap, ZeroHash, &array, indices)?;
-    if seeded.as_str() == text.as_str() && zero.as_str() == text.as_str() {
+) -> Result<String, AllocError> {
+    let text = answer_text(alloc, interned(alloc, Fnv1a::new(), array, indices))?;
+    let seeded = answer_text(alloc, interned(alloc, Fnv1a::with_seed(7), array, indices))?;
+    let zero = answer_text(alloc, interned(alloc, ZeroHash, array, indices))?;
+    if seeded == text && zero == text {
         Ok(text)
     } else {
-        Ok(String::from_str(heap, "the hashes differ")?)
+        String::from_str(alloc, "the hashes differ")
     }
+}
+
+// The keys of the values that the indices name. An index that names none stands for no bytes.
+fn keys_of<A: ArrayAccessor, H: KeyHash>(
+    alloc: Global,
+    interner: &mut Interner<PlainStorage, H>,
+    array: &A,
+    indices: &[usize],
+) -> Result<Vec<u32>, Failure> {
+    indices
+        .iter()
+        .enumerate()
+        .map(|(place, index)| -> Result<u32, Failure> {
+            let key = interner.intern(array.value(*index).unwrap_or(b""), place)?;
+            Ok(key as u32)
+        })
+        .try_collect(alloc)
 }
 
 // The page of the keys, and the page of the entries.
 fn interned<A: ArrayAccessor, H: KeyHash + Drop>(
-    heap: Global,
+    alloc: Global,
     hash: H,
     array: &A,
     indices: &[usize],
-) -> anyhow::Result<String> {
-    let memory = vec![in heap; 0u8; 65536]?;
+) -> Result<String, Failure> {
+    let memory = vec![in alloc; 0u8; 65536]?;
     let mut interner = Interner::new(PlainStorage::new(Column::ByteStrings, memory), hash);
-    let mut keys: Vec<u32> = Vec::new(heap);
-    for (place, index) in indices.iter().enumerate() {
-        let value = array.value(*index).unwrap_or(b"");
-        match interner.intern(value, place) {
-            Ok(key) => keys.push(u32::try_from(key).unwrap_or(0))?,
-            Err(fault) => return Ok(fault_text(heap, fault)?),
-        }
-    }
+    let keys = keys_of(alloc, &mut interner, array, indices)?;
     let store = interner.storage();
     let entries = store.len();
-    let mut text = String::from_str(heap, "page :")?;
-    if let Some(page) = own_page(heap, key_width(entries) as usize, keys.as_slice())? {
-        push_hex(&mut text, page.as_slice())?;
+    let page = page_or_none(alloc, key_width(entries), &keys)?;
+    Ok(format!(in alloc;
+        "page :{} dict {entries} :{}",
+        Hex(&page),
+        Hex(store.page())
+    )?)
+}
+
+// The page of the keys, and no bytes where our writer rejects them.
+fn page_or_none(alloc: Global, width: usize, keys: &[u32]) -> Result<Vec<u8>, AllocError> {
+    match own_page(alloc, width, keys) {
+        Ok(page) => Ok(page),
+        Err(Failure::Rejected(_)) => Ok(Vec::new(alloc)),
+        Err(Failure::Memory(error)) => Err(error),
     }
-    let count = format!(in heap; " dict {entries} :")?;
-    text.push_str(count.as_str())?;
-    push_hex(&mut text, store.page())?;
-    Ok(text)
 }

@@ -1,50 +1,54 @@
-// Compares what hashes, arrays and the interner answer with recorded answers, and interns some thousands of values under each hash.
-// The input has two lines for each case: a command, and `= ` with the answer that is expected.
+//! Compares what hashes, arrays and the interner answer with recorded answers, and interns some thousands of values under each hash.
+//! The input has two lines for each case: a command, and `= ` with the answer that is expected.
 #![tactic(auto)]
 
 mod gathering;
 mod hashing;
 mod opening;
 mod thousands;
+mod unanswered;
 mod words;
 
 use gathering::gather_answer;
 use hashing::hash_answer;
+use interner::{Fnv1a, ZeroHash};
 use opening::open_answer;
+use page_report::Failure;
+use recorded::{number, replay};
 use std::alloc::Global;
 use std::io::{BufRead, BufReader};
 use thousands::print_keys;
+use unanswered::answer_text;
+use words::next_word;
 
 // Our answer to a command, by its first word.
-fn answer(heap: Global, command: &str) -> anyhow::Result<String> {
-    let kind = command.split_whitespace().next().unwrap_or("");
-    match kind {
-        "fnv" | "seeded" | "zero" => hash_answer(heap, command),
-        "gather" => gather_answer(heap, command),
-        _ => open_answer(heap, command),
-    }
+fn answer(alloc: Global, command: &str) -> Result<String, Failure> {
+    let mut words = command.split_whitespace();
+    let text = match words.next() {
+        Some("fnv") => hash_answer(alloc, Fnv1a::new(), words)?,
+        Some("seeded") => {
+            let seed = number(next_word(&mut words));
+            hash_answer(alloc, Fnv1a::with_seed(seed), words)?
+        }
+        Some("zero") => hash_answer(alloc, ZeroHash, words)?,
+        Some("gather") => gather_answer(alloc, command)?,
+        _ => open_answer(alloc, command)?,
+    };
+    Ok(text)
 }
 
 fn main(rt: HostRuntime) -> anyhow::Result<()> {
-    let heap = rt.alloc();
-    let mut command = String::new(heap);
-    let mut all: u32 = 0;
-    let mut agree: u32 = 0;
-    for line in BufReader::new(heap, rt.stdin())?.lines(heap) {
-        let line = line?;
-        let Some(expected) = line.as_str().strip_prefix("= ") else {
-            command = line;
-            continue;
-        };
-        all = all.saturating_add(1);
-        let ours = answer(heap, command.as_str())?;
-        if ours.as_str() == expected {
-            agree = agree.saturating_add(1);
-        } else {
+    let alloc = rt.alloc();
+    let tally = replay(
+        alloc,
+        BufReader::new(alloc, rt.stdin())?.lines(alloc),
+        |command| Ok(answer_text(alloc, answer(alloc, command))?),
+        |command, ours| {
             println!(rt; "differs: {command}")?;
             println!(rt; "ours: {ours}")?;
-        }
-    }
-    println!(rt; "{agree} of {all} answers agree")?;
+            Ok(())
+        },
+    )?;
+    println!(rt; "{tally} answers agree")?;
     print_keys(&rt)
 }

@@ -1,6 +1,6 @@
 -- What a store of entries is, by the list of its entries.
 use Rattle.std.specs.Prelude.{◌≡◌, ℕ, ◌+◌, ◌<◌, ◌≤◌, Bool, true, cond, List, [], ◌∷◌, ◌++◌, length, take, sum_by, ◌≢◌, nat_le, nat_lt, slice_index_or}
-use Rattle.std.specs.List.{AllByRecursion}
+use Rattle.std.specs.List.{All, AllPairs}
 use Rattle.page_format.specs.Faults.{Told, answered, rejected}
 use Rattle.page_format.specs.Limits.{most_entries}
 use Rattle.page_format.specs.Plain.{Bytes, ReadsPlain}
@@ -16,7 +16,7 @@ pub record Store : Type 0 where
   pub page : List Bytes → Bytes
 
 abbrev pub Suited : Store → List Bytes → Type 0
-Suited st es = AllByRecursion (λ v. st.suits v ≡ true) es
+Suited st es = All (λ v. st.suits v ≡ true) es
 
 -- bytes in use
 abbrev pub in_use : Store → List Bytes → ℕ
@@ -41,7 +41,7 @@ abbrev pub Holds : List Bytes → ℕ → Bytes → Type 0
 Holds es k v = (k < length es) × (slice_index_or es k [] ≡ v)
 
 abbrev pub Distinct : List Bytes → Type 0
-Distinct es = (i k : ℕ) → i < k → k < length es → slice_index_or es i [] ≢ slice_index_or es k []
+Distinct es = AllPairs ◌≢◌ es
 
 -- the answer to a push of v onto the entries es
 abbrev pub pushed : Store → List Bytes → Bytes → ℕ → Told ℕ

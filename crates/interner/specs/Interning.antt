@@ -1,19 +1,14 @@
 -- What interning does, by the list of entries alone: find the value in the list, else push it. There is no hash here.
-use Rattle.std.specs.Prelude.{◌≡◌, ℕ, suc, cond, not, List, [], ◌∷◌, ◌++◌, map, Some, None, filter, Option}
-use Rattle.std.specs.List.{AllByRecursion}
+use Rattle.std.specs.Prelude.{◌≡◌, ℕ, not, List, [], ◌∷◌, ◌++◌, map, Some, None, filter, Option}
+use Rattle.std.specs.List.{All, position}
 use Rattle.std.specs.Str.{bytes_eq}
 use Rattle.page_format.specs.Faults.{Told, answered, rejected}
 use Rattle.page_format.specs.Plain.{Bytes}
 use Rattle.interner.specs.Entries.{Store, Holds, Distinct, pushed, after}
 
-abbrev pub one_on : Option ℕ → Option ℕ
-one_on None = None
-one_on (Some k) = Some (suc k)
-
 -- the first place of v in es
 abbrev pub find : List Bytes → Bytes → Option ℕ
-find [] v = None
-find (e ∷ es) v = cond (bytes_eq e v) (Some 0) (one_on (find es v))
+find es v = position (λ e. bytes_eq e v) es
 
 abbrev pub key_or : Option ℕ → Told ℕ → Told ℕ
 key_or (Some k) else = answered k
@@ -86,6 +81,6 @@ pub record EveryRun (st : Store) : Type 0 where
   -- none is there twice
   pub distinct : (cs : List Call) (es : List Bytes) → Runs st [] cs es → Distinct es
   -- every key that was ever answered names, in the end too, the value that it was answered for
-  pub keys : (cs : List Call) (es : List Bytes) → Runs st [] cs es → AllByRecursion (NamesItsValue es) cs
+  pub keys : (cs : List Call) (es : List Bytes) → Runs st [] cs es → All (NamesItsValue es) cs
   -- the same questions get the same answers and leave the same entries, whoever is asked
   pub alike : (cs ds : List Call) (es fs : List Bytes) → Runs st [] cs es → Runs st [] ds fs → map asked cs ≡ map asked ds → (cs ≡ ds) × (es ≡ fs)

@@ -1,11 +1,12 @@
 -- A store whose memory is its page: the entries in PLAIN one after another, with a table of where each one stands.
-use Rattle.std.specs.Prelude.{◌≡◌, ℕ, ◌+◌, ◌<◌, ◌≤◌, Bool, true, List, [], map, length, get_or, take, drop, ◌==◌, nat_le, slice_index_or}
-use Rattle.page_format.specs.Limits.{value_bytes}
+use Rattle.std.specs.Prelude.{◌≡◌, ℕ, ◌+◌, ◌≤◌, Bool, true, List, map, length, take, drop, ◌==◌, nat_le}
+use Rattle.std.specs.List.{All}
+use Rattle.page_format.specs.Limits.{value_bytes, most_entries}
 use Rattle.page_format.specs.Plain.{Bytes, plain_page}
 use Rattle.page_format.specs.declared.column.Column.{Column}
 use Rattle.page_format.specs.declared.column.Column.TheVariants.{ByteStrings, Fixed}
 use Rattle.interner.specs.Entries.{Store}
-use Rattle.interner.specs.declared.entry.Entry.{Entry}
+use Rattle.interner.specs.declared.plain.Entry.{Entry}
 
 -- byte strings of at most 4,096 bytes, or values of the width
 abbrev pub plain_suits : Column → Bytes → Bool
@@ -33,8 +34,17 @@ no_entry = record { start = 0; len = 0 }
 
 -- each of them ends within the bytes in use
 abbrev pub Inside : List Entry → ℕ → ℕ → Type 0
-Inside table count used = (k : ℕ) → k < count → (get_or table k no_entry).start + (get_or table k no_entry).len ≤ used
+Inside table count used = All (λ e. e.start + e.len ≤ used) (take count table)
 
 -- each of them suits
 abbrev pub AllSuit : Column → List Bytes → Type 0
-AllSuit c es = (k : ℕ) → k < length es → plain_suits c (slice_index_or es k []) ≡ true
+AllSuit c es = All (λ v. plain_suits c v ≡ true) es
+
+-- what the fields of a store say of one another: the memory begins with the page of the entries that the table names
+pub record Laid (c : Column) (bytes : Bytes) (table : List Entry) (count used : ℕ) : Type 0 where
+  pub whole : length table ≡ most_entries
+  pub few : count ≤ most_entries
+  pub within : used ≤ length bytes
+  pub inside : Inside table count used
+  pub suited : AllSuit c (stored bytes table count)
+  pub front : take used bytes ≡ plain_page c (stored bytes table count)

@@ -1,56 +1,65 @@
-// A store whose memory is its page: entries in PLAIN one after another, and a table of where each one stands.
-ghost use Rattle.std.specs.Prelude.{◌≡◌, ◌+◌, ◌≤◌, true, [], length, take, replicate, vec_len};
+//! A store whose memory is its page: entries in PLAIN one after another, and a table of where each one stands.
+ghost use Rattle.std.specs.Prelude.{◌≡◌, ◌+◌, ◌≤◌, true, false, [], length, replicate, vec_len, MatchOption};
 ghost use Rattle.page_format.specs.Limits.{most_entries};
-ghost use Rattle.page_format.specs.Plain.{plain_head, plain_form, plain_page};
-ghost use Rattle.page_format.specs.Writes.{Wrote};
-ghost use Rattle.page_format.specs.declared.fault.Layer.TheVariants.{Store};
-ghost use Rattle.interner.specs.Layouts.{no_entry, stored, Inside, AllSuit, plain_suits, plain_store};
+ghost use Rattle.page_format.specs.Plain.{plain_head, plain_form};
+ghost use Rattle.page_format.specs.Writes.{Wrote, HasRoom, Appends};
+ghost use Rattle.interner.specs.Layouts.{no_entry, stored, Laid, plain_suits, plain_need, plain_store};
 ghost use Rattle.interner.specs.Laying;
-ghost use Rattle.std.proofs.Common.{sym, arith};
+ghost use Rattle.std.proofs.Common.{sym};
 
-use crate::entry::Entry;
 use crate::storage::Storage;
-use page_format::{Column, Fault, Layer, MAX_ENTRIES, MAX_VALUE_BYTES, Rejection, write_le};
+use page_format::{BitWriter, Column, Fault, Layer, MAX_ENTRIES, MAX_VALUE_BYTES, Rejection};
 
-#[derive(Drop)]
-pub struct PlainStorage {
-    pub(crate) column: Column,
-    pub(crate) bytes: Vec<u8>,
-    pub(crate) table: [Entry; 4096],
-    pub(crate) count: usize,
-    pub(crate) used: usize,
-    ghost whole: { length table ≡ most_entries },
-    ghost few: { count ≤ most_entries },
-    ghost within: { used ≤ vec_len bytes },
-    ghost inside: { Inside table count used },
-    ghost suited: { AllSuit column (stored bytes.items table count) },
-    ghost laid: { take used bytes.items ≡ plain_page column (stored bytes.items table count) },
+// Where an entry stands in the memory of its store.
+#[derive(Clone, Copy)]
+struct Entry {
+    start: usize,
+    len: usize,
 }
 
-// Writes what stands in front of a value, and answers the place behind it.
-fn write_head(out: &mut [u8], at: usize, column: Column, value: &[u8]) -> usize
-    requires { at + length (plain_head column value.now) ≤ length out.old }
-    ensures { Wrote (plain_head column value.now) at out.old result out.new }
+/// The library allocates nothing, so there is no Vec that grows: the memory is the caller's, with the number of bytes in use
+/// beside it, and the table has a fixed size, with the number of entries beside it.
+#[derive(Drop)]
+pub struct PlainStorage {
+    column: Column,
+    bytes: Vec<u8>,
+    table: [Entry; MAX_ENTRIES],
+    count: usize,
+    used: usize,
+    ghost laid: { Laid column bytes.items table count used },
+}
+
+// Writes what stands in front of a value in PLAIN.
+fn append_head(out: &mut BitWriter<'_>, column: Column, value: &[u8])
+    requires { HasRoom (length (plain_head column value.now)) out.old }
+    ensures { Appends (plain_head column value.now) out.old out.new }
 {
-    match column {
-        Column::ByteStrings => write_le(out, at, 4, value.len() as u64).unwrap(),
-        Column::Fixed(_) => at,
+    if let Column::ByteStrings = column {
+        out.write_le(4, value.len() as u64).unwrap();
     }
 }
 
-// Writes a value in PLAIN, and answers where the value itself starts.
-fn write_form(out: &mut [u8], at: usize, column: Column, value: &[u8]) -> usize
-    requires { at + length (plain_form column value.now) ≤ length out.old }
-    ensures wrote { Wrote (plain_form column value.now) at out.old (result + length value.now) out.new }
-    ensures start { result ≡ at + length (plain_head column value.now) }
+// Writes a value in PLAIN.
+fn append_form(out: &mut BitWriter<'_>, column: Column, value: &[u8])
+    requires { HasRoom (length (plain_form column value.now)) out.old }
+    ensures { Appends (plain_form column value.now) out.old out.new }
 {
-    let start = write_head(out, at, column, value);
-    let end = start + value.len();
-    out[start..end].copy_from_slice(value);
-    start
+    append_head(out, column, value);
+    out.write_bytes(value).unwrap();
 }
 
-// Fills an element of the table.
+// The same at a place of the memory; answers the place behind it.
+fn write_form(memory: &mut [u8], at: usize, column: Column, value: &[u8]) -> usize
+    requires { at + length (plain_form column value.now) ≤ length memory.old }
+    ensures { Wrote (plain_form column value.now) at memory.old result memory.new }
+{
+    let mut out = BitWriter::new(memory);
+    out.move_to(at).unwrap();
+    append_form(&mut out, column, value);
+    out.position()
+}
+
+// Fills an element of the table, which is lent: a rule of this project (DECISIONS.md, "Forms").
 fn record_entry(entry: &mut Entry, start: usize, len: usize)
     ensures { entry.new ≡ record { start = start; len = len } }
 {
@@ -58,19 +67,8 @@ fn record_entry(entry: &mut Entry, start: usize, len: usize)
     entry.len = len;
 }
 
-// A rejection by this layer.
-fn rejected(number: Rejection, place: usize) -> Fault
-    ensures { result ≡ record { number = number; layer = Store; place = place } }
-{
-    Fault {
-        number,
-        layer: Layer::Store,
-        place,
-    }
-}
-
 impl PlainStorage {
-    // A store without entries. The length of the memory that it is handed is its budget.
+    /// A store without entries. The length of the memory that it is handed is its budget.
     pub fn new(column: Column, memory: Vec<u8>) -> PlainStorage
         ensures column { result.column ≡ column }
         ensures memory { result.bytes ≡ memory }
@@ -80,37 +78,27 @@ impl PlainStorage {
         PlainStorage {
             column,
             bytes: memory,
-            table: [Entry { start: 0, len: 0 }; 4096],
+            table: [Entry { start: 0, len: 0 }; MAX_ENTRIES],
             count: 0,
             used: 0,
         }
     }
 
-    // Gives its memory back.
+    /// Gives its memory back.
     pub fn into_memory(self) -> Vec<u8>
         ensures { result ≡ self.bytes }
     {
         self.bytes
     }
 
-    // Whether the store takes such a value.
-    fn suits(&self, value: &[u8]) -> bool
-        ensures { result ≡ plain_suits self.now.column value.now }
+    // The bytes that a value needs, or none where the store takes no such value.
+    fn need(&self, value: &[u8]) -> Option<usize>
+        ensures { MatchOption result (plain_suits self.now.column value.now ≡ false) (λ n. (plain_suits self.now.column value.now ≡ true) × (n ≡ plain_need self.now.column value.now)) }
     {
         match self.column {
-            Column::ByteStrings => value.len() <= MAX_VALUE_BYTES,
-            Column::Fixed(width) => value.len() == width.bytes(),
-        }
-    }
-
-    // The bytes that a value which suits needs.
-    fn need(&self, value: &[u8]) -> usize
-        requires { plain_suits self.now.column value.now ≡ true }
-        ensures { result ≡ length (plain_form self.now.column value.now) }
-    {
-        match self.column {
-            Column::ByteStrings => 4 + value.len(),
-            Column::Fixed(width) => width.bytes(),
+            Column::ByteStrings if value.len() <= MAX_VALUE_BYTES => Some(4 + value.len()),
+            Column::Fixed(width) if value.len() == width.bytes() => Some(value.len()),
+            _ => None,
         }
     }
 }
@@ -124,56 +112,47 @@ impl Storage for PlainStorage {
 
     ghost lawful = { λ x. Laying.lawful x.column x.bytes.len };
 
-    ghost kept = { λ x. Laying.kept x.column x.bytes.items x.table x.count x.used x.bytes.len (sym x.bytes.ok.0) (Prim.omega (arith, x.few, x.whole)) x.few x.within x.suited x.laid };
+    ghost kept = { λ x. Laying.kept x.laid (sym x.bytes.ok.0) };
 
     fn column(&self) -> Column {
         self.column
     }
 
+    #[tactic(auto, using(crate::proofs::Holding::count_of))]
     fn len(&self) -> usize {
         self.count
     }
 
+    #[tactic(auto, using(crate::proofs::Holding::used_of))]
     fn bytes_in_use(&self) -> usize {
         self.used
     }
 
-    fn equals(&self, key: usize, value: &[u8]) -> bool {
-        match self.get(key) {
-            Some(entry) => entry == value,
-            None => false,
-        }
-    }
-
     fn get(&self, key: usize) -> Option<&[u8]> {
-        if key >= self.count {
-            return None;
-        }
-        let Entry { start, len } = self.table[key];
-        let end = start + len;
-        Some(&self.bytes[start..end])
+        let entry = self.table[..self.count].get(key)?;
+        Some(&self.bytes[entry.start..entry.start + entry.len])
     }
 
     fn page(&self) -> &[u8] {
-        let end = self.used;
-        &self.bytes[0..end]
+        &self.bytes[..self.used]
     }
 
+    #[tactic(auto, using(crate::proofs::Holding::count_of, crate::proofs::Holding::used_of, crate::proofs::Holding::memory_of, crate::specs::Laying::form_need))]
     fn push(&mut self, value: &[u8], place: usize) -> Result<usize, Fault> {
-        if !self.suits(value) {
-            return Err(rejected(Rejection::UnsuitedValue, place));
-        }
+        let Some(need) = self.need(value) else {
+            return Err(Fault::new(Rejection::UnsuitedValue, Layer::Store, place));
+        };
         let key = self.count;
         if key >= MAX_ENTRIES {
-            return Err(rejected(Rejection::DictionaryFull, place));
+            return Err(Fault::new(Rejection::DictionaryFull, Layer::Store, place));
         }
-        if self.need(value) > self.bytes.len() - self.used {
-            return Err(rejected(Rejection::MemoryFull, place));
+        if need > self.bytes.len() - self.used {
+            return Err(Fault::new(Rejection::MemoryFull, Layer::Store, place));
         }
-        let start = write_form(&mut self.bytes, self.used, self.column, value);
-        record_entry(&mut self.table[key], start, value.len());
+        let end = write_form(&mut self.bytes, self.used, self.column, value);
+        record_entry(&mut self.table[key], end - value.len(), value.len());
         self.count = key + 1;
-        self.used = start + value.len();
+        self.used = end;
         Ok(key)
     }
 }

@@ -1,5 +1,5 @@
-// A store of entries, each under its number.
-ghost use Rattle.std.specs.Prelude.{◌≡◌, ℕ, ◌≤◌, List, [], ◌++◌, length, drop, Err, Decides, MatchOption};
+//! A store of entries, each under its number.
+ghost use Rattle.std.specs.Prelude.{◌≡◌, ℕ, ◌≤◌, List, [], ◌++◌, length, drop, OnErr, Decides, MatchOption};
 ghost use Rattle.page_format.specs.Faults.{told};
 ghost use Rattle.page_format.specs.Plain.{Bytes};
 ghost use Rattle.interner.specs.Entries.{Store, Lawful, Kept, Holds, in_use, pushed, after};
@@ -25,7 +25,10 @@ pub trait Storage {
 
     // false where there is no entry of that number
     fn equals(&self, key: usize, value: &[u8]) -> bool
-        ensures { Decides result (Holds (entries self.now) key value.now) };
+        ensures { Decides result (Holds (entries self.now) key value.now) }
+    {
+        self.get(key) == Some(value)
+    }
 
     fn get(&self, key: usize) -> Option<&[u8]>
         ensures { MatchOption result (length (entries self.now) ≤ key) (λ v. Holds (entries self.now) key v.now) };
@@ -38,7 +41,7 @@ pub trait Storage {
         ensures grown { entries self.new ≡ after (entries self.old) value.now (told result) }
         ensures same { store self.new ≡ store self.old }
         ensures bytes { memory self.new ≡ (store self.old).page (entries self.new) ++ drop (in_use (store self.old) (entries self.new)) (memory self.old) }
-        ensures unchanged { (f : Fault) → result ≡ Err f → self.new ≡ self.old };
+        ensures unchanged { OnErr result (self.new ≡ self.old) };
 
     ghost lawful: { (x : Self) → Lawful (store x) };
 

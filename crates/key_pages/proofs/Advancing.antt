@@ -1,46 +1,29 @@
 -- One run on.
-use Rattle.std.proofs.Common.{◌≡◌, ℕ, ◌+◌, ◌-◌, ◌*◌, ◌^◌, ◌<◌, ◌≤◌, true, ◌&&◌, eqb, ltb, List, length, take, drop, sym, ap, ◌∙◌, arith, length-drop}
-use Rattle.std.proofs.lemmas.List.{length-take-le, take_rest}
-use Rattle.std.proofs.lemmas.Bool.{and_parts, and_from, eqb-true, ltb-true, eq-eqb, lt-ltb}
+use Rattle.std.proofs.Common.{◌≡◌, ℕ, ◌+◌, ◌*◌, ◌^◌, ◌<◌, ◌≤◌, true, List, length, take, drop, Ok, Err, Result, IfOk, IfErr, arith, length-drop}
+use Rattle.std.proofs.lemmas.List.{length-take-le}
+use Rattle.std.proofs.lemmas.Bool.Decides.{nat_tests}
 use Rattle.page_format.specs.Bits.{bytes_for}
-use Rattle.key_pages.specs.Meaning.{ReadRun, repeats, packs, RunAt, a_repeat, a_packed, WrongRun, no_header, empty_run, too_many, cut_value, too_long, cut_groups}
-use Rattle.key_pages.specs.Views.{whole}
-use Rattle.key_pages.specs.Reading.{Step, a_run, no_run, read_run}
+use Rattle.key_pages.specs.Meaning.{ReadRun, RunAt, a_repeat, a_packed, WrongRun, no_header, empty_run, too_many, cut_value, too_long, cut_groups}
+use Rattle.key_pages.specs.Views.{view, whole}
+use Rattle.key_pages.specs.Reading.{a_run, read_run}
+use Rattle.key_pages.specs.Coming.{ReadAs, next_step}
+use Rattle.key_pages.specs.declared.runs.Runs.{Runs}
+use Rattle.key_pages.specs.declared.runs.Found.{Found}
 use Rattle.key_pages.proofs.Fields.{varint_sized}
 use Rattle.key_pages.proofs.Walking.{run_found, run_missed, run_within}
-
--- a run with values, and as many bytes as they take at w bits: what the test `whole` says
-abbrev pub Whole : ℕ → ReadRun → Type 0
-Whole w (repeats place count value) = (length value ≡ bytes_for w) × (0 < count)
-Whole w (packs place groups bytes) = (length bytes ≡ groups * w) × (0 < groups) × (groups < 2 ^ 32)
-
-pub whole_from : (w : ℕ) (run : ReadRun) → whole w run ≡ true → Whole w run
-whole_from w (repeats place count value) e =
-    let a = and_parts (eqb (length value) (bytes_for w)) (ltb 0 count) e in
-    (eqb-true (length value) (bytes_for w) a.0, ltb-true 0 count a.1)
-whole_from w (packs place groups bytes) e =
-    let a = and_parts (eqb (length bytes) (groups * w)) (ltb 0 groups && ltb groups (2 ^ 32)) e in
-    let b = and_parts (ltb 0 groups) (ltb groups (2 ^ 32)) a.1 in
-    (eqb-true (length bytes) (groups * w) a.0, ltb-true 0 groups b.0, ltb-true groups (2 ^ 32) b.1)
-
-whole_to : (w : ℕ) (run : ReadRun) → Whole w run → whole w run ≡ true
-whole_to w (repeats place count value) (a, b) = and_from _ _ (eq-eqb (length value) (bytes_for w) a) (lt-ltb 0 count b)
-whole_to w (packs place groups bytes) (a, b, c) =
-    and_from _ _ (eq-eqb (length bytes) (groups * w) a) (and_from _ _ (lt-ltb 0 groups b) (lt-ltb groups (2 ^ 32) c))
 
 part_long : (n k : ℕ) (bs : List ℕ) → n + k ≤ length bs → length (take k (drop n bs)) ≡ k
 part_long n k bs h = length-take-le k (drop n bs) (omega (arith, length-drop n bs))
 
-at_whole : (w place left : ℕ) (bs : List ℕ) (run : ReadRun) (size : ℕ) → RunAt w place left bs run size → Whole w run
-at_whole w place left bs run size (a_repeat count n h pos few fits) = (part_long n (bytes_for w) bs fits, pos)
+at_whole : (w place left : ℕ) (bs : List ℕ) (run : ReadRun) (size : ℕ) → RunAt w place left bs run size → whole w run ≡ true
+at_whole w place left bs run size (a_repeat count n h pos few fits) = let l = part_long n (bytes_for w) bs fits in grind (arith, nat_tests)
 at_whole w place left bs run size (a_packed groups n h pos few fits) =
-    (part_long n (groups * w) bs fits, pos, omega (arith, (varint_sized 32 bs (record { value = 2 * groups + 1; len = n }) h).below))
+    let l = part_long n (groups * w) bs fits in
+    let s : groups < 2 ^ 32 = omega arith in
+    grind (arith, nat_tests)
 
 pub run_whole : (w place left : ℕ) (bs : List ℕ) (run : ReadRun) (size : ℕ) → read_run w place left bs ≡ a_run run size → whole w run ≡ true
-run_whole w place left bs run size e = whole_to w run (at_whole w place left bs run size (run_found w place left bs run size e))
-
-pub run_inside : (w place left : ℕ) (bs : List ℕ) (run : ReadRun) (size : ℕ) → read_run w place left bs ≡ a_run run size → size ≤ length bs
-run_inside w place left bs run size e = run_within w place left bs run size (run_found w place left bs run size e)
+run_whole w place left bs run size e = at_whole w place left bs run size (run_found w place left bs run size e)
 
 wrong_within : (w left : ℕ) (bs : List ℕ) (k : ℕ) → WrongRun w left bs k → k ≤ length bs
 wrong_within w left bs k (no_header b e) = omega arith
@@ -50,18 +33,19 @@ wrong_within w left bs k (cut_value count n e pos few lt) = (varint_sized 32 bs 
 wrong_within w left bs k (too_long groups n e lt) = omega arith
 wrong_within w left bs k (cut_groups groups n e pos few lt) = (varint_sized 32 bs (record { value = 2 * groups + 1; len = n }) e).inside
 
-pub wrong_inside : (w place left : ℕ) (bs : List ℕ) (k : ℕ) → read_run w place left bs ≡ no_run k → k ≤ length bs
-wrong_inside w place left bs k e = wrong_within w left bs k (run_missed w place left bs k e)
+-- a run that was read ends within the page; a wrong field lies within the page
 
--- the bytes from a place of the page
-pub rest_step : (w place left : ℕ) (page : List ℕ) (s : Step) → read_run w place left (take (length page - place) (drop place page)) ≡ s
-    → read_run w place left (drop place page) ≡ s
-rest_step w place left page s e = ap (read_run w place left) (sym (take_rest page place)) ∙ e
+pub read_ok : (s : Runs) (r : Result Found ℕ) → ReadAs (next_step s) r → IfOk r (λ f. (s.place + f.size ≤ length s.page.now) × (whole s.width.bits (view f.run) ≡ true))
+read_ok s (Ok f) e =
+    let at = run_found s.width.bits s.place s.left (drop s.place s.page.now) (view f.run) f.size e in (
+      omega (arith, s.within, run_within _ _ _ _ _ _ at, length-drop s.place s.page.now),
+      run_whole s.width.bits s.place s.left (drop s.place s.page.now) (view f.run) f.size e,
+    )
+read_ok s (Err k) e = tt
 
-pub place_inside : (w place left : ℕ) (page : List ℕ) (run : ReadRun) (size : ℕ) → place ≤ length page
-    → read_run w place left (drop place page) ≡ a_run run size → place + size ≤ length page
-place_inside w place left page run size h e = omega (arith, run_inside w place left (drop place page) run size e, length-drop place page)
+pub read_err : (s : Runs) (r : Result Found ℕ) → ReadAs (next_step s) r → IfErr r (λ k. s.place + k ≤ length s.page.now)
+read_err s (Ok f) e = tt
+read_err s (Err k) e = omega (arith, s.within, wrong_within _ _ _ _ (run_missed s.width.bits s.place s.left (drop s.place s.page.now) k e), length-drop s.place s.page.now)
 
-pub fault_inside : (w place left : ℕ) (page : List ℕ) (k : ℕ) → place ≤ length page
-    → read_run w place left (drop place page) ≡ no_run k → place + k ≤ length page
-fault_inside w place left page k h e = omega (arith, wrong_inside w place left (drop place page) k e, length-drop place page)
+-- where a run that was read, or its first wrong field, ends
+pub ruleset bounds = (varint_sized, read_ok, read_err)

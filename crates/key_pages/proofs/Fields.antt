@@ -1,37 +1,20 @@
 -- Bounds on the fields of a page.
-use Rattle.std.proofs.Common.{◌≡◌, ℕ, zero, suc, ◌+◌, ◌*◌, ◌/◌, ◌^◌, ◌<◌, ◌≤◌, leb, List, [], ◌∷◌, length, get_or, take, Ok, Err, Result, ap, ◌∙◌, subst, inl, inr, add-one, arith, pow_mono}
+use Rattle.std.proofs.Common.{◌≡◌, ℕ, zero, suc, ◌+◌, ◌*◌, ◌/◌, ◌^◌, ◌<◌, ◌≤◌, List, [], ◌∷◌, length, get_or, Ok, ap, ◌∙◌, arith, pow_mono}
 use Rattle.std.proofs.lemmas.Nat.{pow_pos, pow-add, mod_below}
 use Rattle.std.proofs.lemmas.List.{take_all}
-use Rattle.std.proofs.lemmas.Bool.{cases_Bool, leb-false, le-ltb}
-use Rattle.page_format.specs.Bits.{read_varint, varint_bytes, continued, sevens, le_number, read_le, packed_value, read_packed}
+use Rattle.std.proofs.lemmas.Bool.Decides.{nat_tests}
+use Rattle.std.proofs.lemmas.Bool.{le-ltb}
+use Rattle.page_format.specs.Bits.{read_varint, le_number, read_le, packed_value}
 use Rattle.page_format.specs.declared.field.Field.{Field}
-use Rattle.page_format.specs.declared.field.BadField.{BadField}
 
 -- a field lies within its bytes and its type
 pub record Sized (w : ℕ) (bs : List ℕ) (f : Field) : Type 0 where
   pub inside : f.len ≤ length bs
   pub below : f.value < 2 ^ w
 
--- what a varint that was read is
-abbrev FitsIf : ℕ → List ℕ → Result Field BadField → Type 0
-FitsIf w bs (Ok f) = Sized w bs f
-FitsIf w bs (Err e) = Unit {0}
-
-varint_fits : (w : ℕ) (bs : List ℕ) → FitsIf w bs (read_varint w bs)
-unfolding read_varint
-varint_fits w bs = elim (cases_Bool (leb (varint_bytes w) (continued bs))) [
-  | inl e ↦ rw e tt
-  | inr e ↦ rw e (elim (cases_Bool (leb (length bs) (continued bs))) [
-    | inl f ↦ rw f tt
-    | inr f ↦ rw f (elim (cases_Bool (leb (2 ^ w) (sevens (take (suc (continued bs)) bs)))) [
-      | inl g ↦ rw g tt
-      | inr g ↦ rw g (record { inside = leb-false (length bs) (continued bs) f; below = leb-false (2 ^ w) (sevens (take (suc (continued bs)) bs)) g })
-    ])
-  ])
-]
-
 pub varint_sized : (w : ℕ) (bs : List ℕ) (f : Field) → read_varint w bs ≡ Ok f → Sized w bs f
-varint_sized w bs f e = subst (λ r. FitsIf w bs r) e (varint_fits w bs)
+unfolding read_varint
+varint_sized w bs f e = record { inside = grind (arith, nat_tests); below = grind (arith, nat_tests) }
 
 -- numbers of few bytes
 
@@ -56,7 +39,3 @@ packed_fits w bs i h =
     let a = mod_below (le_number bs / 2 ^ (i * w)) (2 ^ w) (pow_pos w) in
     let b : 2 ^ w ≤ 2 ^ 32 = pow_mono h in
     omega (arith, a, b)
-
-pub packed_reads : (w : ℕ) (bs : List ℕ) (i : ℕ) → w ≤ 32 → (i + 1) * w ≤ 8 * length bs → read_packed w bs i ≡ Ok (packed_value w bs i)
-packed_reads w bs i h k =
-    rw (le-ltb 64 w (omega arith), le-ltb (8 * length bs) (suc i * w) (subst (λ t. t * w ≤ 8 * length bs) (add-one i) k))

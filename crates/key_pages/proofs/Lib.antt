@@ -3,7 +3,6 @@ pub mod Ruling
 pub mod Steps
 pub mod Sizes
 pub mod Writes
-pub mod Holding
 pub mod Carried
 pub mod Finishing
 pub mod RoundTrip

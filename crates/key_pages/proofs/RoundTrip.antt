@@ -6,12 +6,13 @@ use Rattle.std.specs.List.{flat_map, AllByRecursion}
 use Rattle.std.proofs.lemmas.List.{append-nil, append_assoc, take_at, drop_at, take_all, length_push}
 use Rattle.std.proofs.lemmas.Nat.{pow-add, pow_pos}
 use Rattle.std.proofs.lemmas.List.FromFn.{fill_by_all}
-use Rattle.std.proofs.ByRecursion.{All-get_or, All-append}
+use Rattle.std.proofs.ByRecursion.{All-get_or, All-append, All-push}
 use Rattle.page_format.specs.Bits.{varint, read_varint, le_bytes, le_number, packed_number, packed_bytes, packed_value, low_bits, bytes_for}
 use Rattle.page_format.specs.Limits.{page_values, run_groups}
 use Rattle.page_format.proofs.Endian.{length-le_bytes, le_append, le_low, le_reads}
 use Rattle.page_format.proofs.Varints.{varint_reads_back, varint_last}
 use Rattle.page_format.proofs.Packing.{packed_length, packed_below, packed_reads_back}
+use Rattle.key_pages.proofs.Steps.{flat_push}
 use Rattle.key_pages.proofs.Ruling.{rules_cut}
 use Rattle.key_pages.specs.Back.{PageReadsBack}
 use Rattle.key_pages.specs.Runs.{Run, repeat, packed, filled, cut, run_bytes, page}
@@ -117,7 +118,6 @@ reads_more : (w place size : ℕ) (run : ReadRun) (F ks rest enc bs : List ℕ) 
 reads_more w place size run F ks rest enc bs some at long values many left front r =
     let d : drop size (enc ++ bs) ≡ bs = drop_at enc bs size long in
     let l : length ks - run_length run ≡ length rest = ap (λ t. length ks - t) many ∙ sym left in
-    let j = flat_map (run_values w) r.runs in
     record {
       runs = run ∷ r.runs;
       are = one_more some at (subst (λ t. RunsOf w (place + size) (length ks - run_length run) t r.runs) (sym d) (subst (λ t. RunsOf w (place + size) t bs r.runs) (sym l) r.are));
@@ -132,8 +132,6 @@ repeat_reads : (w place r k : ℕ) (ks rest bs : List ℕ) → 0 < r → 2 * r <
     → ReadsAs w (place + length (run_bytes w (repeat r k))) rest bs → ReadsAs w place ks (run_bytes w (repeat r k) ++ bs)
 unfolding run_bytes run_values
 repeat_reads w place r k ks rest bs pos few small is next =
-    let v = varint (2 * r) in
-    let b = le_bytes (bytes_for w) k in
     let lb : length (le_bytes (bytes_for w) k) ≡ bytes_for w = length-le_bytes (bytes_for w) k in
     let le : length (varint (2 * r) ++ le_bytes (bytes_for w) k) ≡ length (varint (2 * r)) + bytes_for w = length-append (varint (2 * r)) (le_bytes (bytes_for w) k) ∙ ap (λ t. length (varint (2 * r)) + t) lb in
     let jn : (varint (2 * r) ++ le_bytes (bytes_for w) k) ++ bs ≡ varint (2 * r) ++ (le_bytes (bytes_for w) k ++ bs) = append_assoc (varint (2 * r)) (le_bytes (bytes_for w) k) bs in
@@ -156,8 +154,6 @@ packed_reads : (w place : ℕ) (gs : List (List ℕ)) (ks rest bs : List ℕ) �
     → ReadsAs w (place + length (run_bytes w (packed gs))) rest bs → ReadsAs w place ks (run_bytes w (packed gs) ++ bs)
 unfolding run_bytes run_values
 packed_reads w place gs ks rest bs eight pos few small some left front next =
-    let h = 2 * length gs + 1 in
-    let body = flat_map (packed_bytes w) gs in
     let bj : flat_map (packed_bytes w) gs ≡ packed_bytes w (flat gs) = groups_join w gs eight small in
     let lf : length (flat gs) ≡ 8 * length gs = length-flat gs eight in
     let m8 : length (flat gs) * w ≡ 8 * (length gs * w) = ap (λ t. t * w) lf ∙ mul_assoc 8 (length gs) w in
@@ -181,14 +177,6 @@ repeated : (w r k : ℕ) (rest : List ℕ) → 0 < r → Small w (replicate r k 
 repeated w zero k rest pos h = absurd (omega arith)
 repeated w (suc r) k rest pos h = h.0
 
-flat_push : (gs : List (List ℕ)) (g : List ℕ) → flat (gs ++ g ∷ []) ≡ flat gs ++ g
-flat_push [] g = append-nil g
-flat_push (h ∷ gs) g = ap (λ t. h ++ t) (flat_push gs g) ∙ sym (append_assoc h (flat gs) g)
-
-eights_push : (gs : List (List ℕ)) (g : List ℕ) → Eights gs → length g ≡ 8 → Eights (gs ++ g ∷ [])
-eights_push [] g h e = (e, tt)
-eights_push (x ∷ gs) g h e = (h.0, eights_push gs g h.1 e)
-
 length-filled : (p : List ℕ) → length p < 8 → length (filled p) ≡ 8
 length-filled p h = length-append p (replicate (8 - length p) 0) ∙ ap (λ t. length p + t) (length-replicate (8 - length p) 0) ∙ omega arith
 
@@ -202,7 +190,7 @@ last_reads w place gs p ks eight few small pos short is =
     let lk : length ks ≡ length (flat gs) + length p = ap length is ∙ length-append (flat gs) p in
     let ff : flat (gs ++ filled p ∷ []) ++ [] ≡ ks ++ replicate (8 - length p) 0 =
     append-nil _ ∙ flat_push gs (filled p) ∙ sym (append_assoc (flat gs) p (replicate (8 - length p) 0)) ∙ ap (λ t. t ++ replicate (8 - length p) 0) (sym is) in
-    packed_reads w place (gs ++ filled p ∷ []) ks [] [] (eights_push gs (filled p) eight (length-filled p short)) (omega arith) (omega arith)
+    packed_reads w place (gs ++ filled p ∷ []) ks [] [] (All-push (λ g. length g ≡ 8) gs (filled p) eight (length-filled p short)) (omega arith) (omega arith)
     (subst (Small w) (sym (flat_push gs (filled p))) (All-append (λ v. v < 2 ^ w) (flat gs) (filled p) (small_front w (flat gs) p k) (small_filled w p (small_back w (flat gs) p k))))
     (omega arith) (omega arith) (ap (take (length ks)) ff ∙ take_at ks (replicate (8 - length p) 0) (length ks) refl) (reads_none w _)
 

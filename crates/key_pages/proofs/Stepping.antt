@@ -1,59 +1,68 @@
 -- What `next` of runs and of keys gives.
 use Rattle.std.proofs.Common.{◌≡◌, ℕ, zero, suc, ◌+◌, ◌-◌, ◌*◌, ◌<◌, ◌≤◌, true, List, [], ◌∷◌, ◌++◌, length, get_or, take, drop, Some, None, Ok, Err, Option, Result, sym, refl, ap, ◌∙◌, subst, mul_assoc, arith}
 use lib.ListN.{length-replicate}
-use Rattle.std.specs.Option.{option_map}
+use Rattle.std.specs.Iterator.{YieldsFirstBy, MakesProgress, item_count}
+use Rattle.std.specs.Bool.{⊤}
 use Rattle.std.specs.Result.{result_ok}
 use Rattle.std.specs.List.{flat_map}
+use Rattle.std.proofs.lemmas.Bool.Decides.{nat_tests}
 use Rattle.std.proofs.lemmas.Nat.{mul-le}
 use Rattle.std.proofs.lemmas.List.FromFn.{length-map-range_with_len, get_or-map-range_with_len}
-use Rattle.std.proofs.lemmas.List.{drop-drop, drop_all, drop_more, get_or-replicate, take_all}
+use Rattle.std.proofs.lemmas.List.{drop-drop, drop_all, drop_more, get_or-replicate}
 use Rattle.page_format.specs.Bits.{le_number, packed_value}
 use Rattle.key_pages.specs.Meaning.{ReadRun, repeats, packs, run_length, run_values, unpacked}
 use Rattle.key_pages.specs.Reading.{walk, walk_on}
 use Rattle.key_pages.specs.Views.{view, whole, holds_whole}
-use Rattle.key_pages.specs.Coming.{Gives, Behind, Advanced, walk_from, runs_to_come, held_values, values_to_come, keys_to_come, InUse, Using}
+use Rattle.key_pages.specs.Coming.{Behind, Advanced, walk_from, runs_to_come, held_values, values_to_come, keys_to_come, InUse, Using}
 use Rattle.key_pages.specs.declared.run.Run.{Run}
-use Rattle.key_pages.specs.declared.cursors.Runs.{Runs}
-use Rattle.key_pages.specs.declared.cursors.Keys.{Keys}
+use Rattle.key_pages.specs.declared.runs.Runs.{Runs}
+use Rattle.key_pages.specs.declared.keys.Keys.{Keys}
 use Rattle.key_pages.proofs.Walking.{walk_done, walk_run, walk_stop}
-use Rattle.key_pages.proofs.Advancing.{whole_from, run_whole}
+use Rattle.key_pages.proofs.Advancing.{run_whole}
 
 -- runs
 
-walk_nothing : (place : ℕ) (bs : List ℕ) (w : ℕ) → (walk w place 0 bs).runs ≡ []
-walk_nothing place [] w = ap (λ t. t.runs) (walk_done w place [])
-walk_nothing place (b ∷ bs) w = ap (λ t. t.runs) (walk_done w place (b ∷ bs))
+nothing : (w place : ℕ) (bs : List ℕ) → (walk w place 0 bs).runs ≡ []
+nothing w place [] = ap (λ t. t.runs) (walk_done w place [])
+nothing w place (b ∷ bs) = ap (λ t. t.runs) (walk_done w place (b ∷ bs))
 
-pub none_left : (w place left : ℕ) (bs : List ℕ) → left ≡ 0 → (walk w place left bs).runs ≡ []
-none_left w place left bs e = rw e (walk_nothing place bs w)
+pub none_left : (s : Runs) → s.left ≡ 0 → runs_to_come s ≡ []
+none_left s e = ap (λ n. (walk s.width.bits s.place n (drop s.place s.page.now)).runs) e ∙ nothing s.width.bits s.place (drop s.place s.page.now)
 
 -- where a run was taken, the walk goes on behind it
 pub walk_behind : (s : Runs) (run : ReadRun) (size : ℕ) (t : Runs) → 0 < s.left → Behind s run size t → walk_from s ≡ walk_on run (walk_from t)
 walk_behind s run size t pos b =
-    let a : walk_from s ≡ walk_on run (walk s.width (s.place + size) (s.left - run_length run) (drop size (drop s.place s.page.now))) =
-    walk_run s.width s.place s.left (drop s.place s.page.now) run size pos b.read in
+    let a : walk_from s ≡ walk_on run (walk s.width.bits (s.place + size) (s.left - run_length run) (drop size (drop s.place s.page.now))) =
+    walk_run s.width.bits s.place s.left (drop s.place s.page.now) run size pos b.read in
     let d : drop size (drop s.place s.page.now) ≡ drop (s.place + size) s.page.now = drop-drop size s.place s.page.now in
     let p = b.page_is in
     let q = b.width_is in
     let u = b.place_is in
     let v = b.left_is in
-    let e : walk_from t ≡ walk s.width (s.place + size) (s.left - run_length run) (drop size (drop s.place s.page.now)) = cc in
+    let e : walk_from t ≡ walk s.width.bits (s.place + size) (s.left - run_length run) (drop size (drop s.place s.page.now)) = cc in
     a ∙ ap (walk_on run) (sym e)
 
-pub next_run : (s : Runs) (r : Result Run ℕ) (t : Runs) → 0 < s.left → Advanced s r t → Gives (runs_to_come s) (option_map view (result_ok r)) (runs_to_come t)
+-- an iterator that gives the first of what is left makes progress
+pub progress : {S A B : Type 0} (v : A → B) (rest : S → List B) (s : S) (r : Option A) (t : S) → YieldsFirstBy v rest s r t → MakesProgress (λ _. ⊤) (item_count rest) s r t
+progress v rest s None t g = record { on = λ _. tt; keeps = tt; rests = λ _. tt }
+progress v rest s (Some x) t g = record { on = λ _. (tt, tt, omega (arith, ap length g)); keeps = tt; rests = λ _. tt }
+
+pub next_run : (s : Runs) (r : Result Run ℕ) (t : Runs) → 0 < s.left → Advanced s r t → YieldsFirstBy view runs_to_come s (result_ok r) t
 next_run s (Ok run) t pos (size, b) = ap (λ x. x.runs) (walk_behind s (view run) size t pos b)
 next_run s (Err p) t pos ((k, e, q), same) =
-    let none : runs_to_come s ≡ [] = ap (λ x. x.runs) (walk_stop s.width s.place s.left (drop s.place s.page.now) k pos e) in
+    let none : runs_to_come s ≡ [] = ap (λ x. x.runs) (walk_stop s.width.bits s.place s.left (drop s.place s.page.now) k pos e) in
     (none, subst (λ x. runs_to_come x ≡ []) (sym same) none)
 
-pub next_whole : (s : Runs) (r : Result Run ℕ) (t : Runs) → Advanced s r t → holds_whole t.width (result_ok r) ≡ true
+pub next_whole : (s : Runs) (r : Result Run ℕ) (t : Runs) → Advanced s r t → holds_whole t.width.bits (result_ok r) ≡ true
 next_whole s (Ok run) t (size, b) =
-    subst (λ w. whole w (view run) ≡ true) (sym b.width_is) (run_whole s.width s.place s.left (drop s.place s.page.now) (view run) size b.read)
+    subst (λ w. whole w.bits (view run) ≡ true) (sym b.width_is) (run_whole s.width.bits s.place s.left (drop s.place s.page.now) (view run) size b.read)
 next_whole s (Err p) t h = refl
 
 pub next_width : (s : Runs) (r : Result Run ℕ) (t : Runs) → Advanced s r t → t.width ≡ s.width
 next_width s (Ok run) t (size, b) = b.width_is
-next_width s (Err p) t (e, same) = ap (λ x. x.width) same
+next_width s (Err p) t (h, same) = ap (λ x. x.width) same
+
+pub ruleset taking = (none_left, next_run, next_whole, next_width, progress)
 
 -- the values of a run
 
@@ -69,14 +78,16 @@ pub packed_within : (w groups : ℕ) (bytes : List ℕ) (i : ℕ) → length byt
 packed_within w groups bytes i e h =
     omega (arith, mul-le (i + 1) w (8 * groups) w (omega arith) (omega arith), mul_assoc 8 groups w, ap (λ t. 8 * t) e)
 
+pub ruleset run_keys = (repeat_key, packed_key, packed_within)
+
 pub length-values : (w : ℕ) (run : ReadRun) → length (run_values w run) ≡ run_length run
 unfolding run_values unpacked
 length-values w (repeats place count value) = length-replicate count (le_number value)
 length-values w (packs place groups bytes) = length-map-range_with_len (packed_value w bytes) 0 (8 * groups)
 
 whole_long : (w : ℕ) (run : ReadRun) → whole w run ≡ true → 0 < run_length run
-whole_long w (repeats place count value) e = (whole_from w (repeats place count value) e).1
-whole_long w (packs place groups bytes) e = omega (arith, (whole_from w (packs place groups bytes) e).1)
+whole_long w (repeats place count value) e = grind (arith, nat_tests)
+whole_long w (packs place groups bytes) e = grind (arith, nat_tests)
 
 -- keys
 
@@ -96,45 +107,40 @@ spent_some w at o run e h =
     subst (λ x. drop at (held_values w x) ≡ []) (sym e) (drop_all at (run_values w (view run)) (omega (arith, length-values w (view run))))
 
 -- behind it the next run is put in use
-pub turned : (s t : Keys) (o : Option Run) → drop s.at (held_values s.runs.width s.run) ≡ []
-    → Gives (runs_to_come s.runs) (option_map view o) (runs_to_come t.runs) → holds_whole t.runs.width o ≡ true → t.runs.width ≡ s.runs.width
+pub turned : (s t : Keys) (o : Option Run) → drop s.at (held_values s.runs.width.bits s.run) ≡ []
+    → YieldsFirstBy view runs_to_come s.runs o t.runs → holds_whole t.runs.width.bits o ≡ true → t.runs.width ≡ s.runs.width
     → t.run ≡ o → t.at ≡ 0 → t.left ≡ s.left → InUse s o t
 turned s t None spent (none, none') fits width run at left =
-    let f : ReadRun → List ℕ = run_values s.runs.width in
-    let g : ReadRun → List ℕ = run_values t.runs.width in
-    let a : drop t.at (held_values t.runs.width t.run) ≡ [] = spent_none t.runs.width t.at t.run run in (
+    let f : ReadRun → List ℕ = run_values s.runs.width.bits in
+    let g : ReadRun → List ℕ = run_values t.runs.width.bits in
+    let a : drop t.at (held_values t.runs.width.bits t.run) ≡ [] = spent_none t.runs.width.bits t.at t.run run in (
       ap (λ x. x ++ flat_map f (runs_to_come s.runs)) spent ∙ ap (flat_map f) none,
       ap (λ x. x ++ flat_map g (runs_to_come t.runs)) a ∙ ap (flat_map g) none',
     )
 turned s t (Some r) spent gives fits width run at left =
-    let w = s.runs.width in
+    let w = s.runs.width.bits in
     let a : values_to_come s ≡ run_values w (view r) ++ flat_map (run_values w) (runs_to_come t.runs) =
     ap (λ x. x ++ flat_map (run_values w) (runs_to_come s.runs)) spent ∙ ap (flat_map (run_values w)) gives in
     let b : values_to_come t ≡ drop t.at (held_values w t.run) ++ flat_map (run_values w) (runs_to_come t.runs) =
-    ap (λ v. drop t.at (held_values v t.run) ++ flat_map (run_values v) (runs_to_come t.runs)) width in
+    ap (λ v. drop t.at (held_values v.bits t.run) ++ flat_map (run_values v.bits) (runs_to_come t.runs)) width in
     let d : drop t.at (held_values w t.run) ≡ run_values w (view r) =
     ap (λ n. drop n (held_values w t.run)) at ∙ ap (held_values w) run in
     record {
       held = run;
-      more = omega (arith, at, whole_long t.runs.width (view r) fits);
+      more = omega (arith, at, whole_long t.runs.width.bits (view r) fits);
       values = b ∙ ap (λ x. x ++ flat_map (run_values w) (runs_to_come t.runs)) d ∙ sym a;
       left_is = left;
     }
 
-pub key_gives : (s t : Keys) (run : Run) (key : ℕ) → 0 < s.left → Using s run t → key ≡ get_or (run_values t.runs.width (view run)) t.at 0
-    → keys_to_come s ≡ key ∷ take (t.left - 1) (drop (t.at + 1) (held_values t.runs.width t.run) ++ flat_map (run_values t.runs.width) (runs_to_come t.runs))
+pub ruleset turning = (spent_none, spent_some, turned)
+
+pub key_gives : (s t : Keys) (run : Run) (key : ℕ) → 0 < s.left → Using s run t → key ≡ get_or (run_values t.runs.width.bits (view run)) t.at 0
+    → keys_to_come s ≡ key ∷ take (t.left - 1) (drop (t.at + 1) (held_values t.runs.width.bits t.run) ++ flat_map (run_values t.runs.width.bits) (runs_to_come t.runs))
 key_gives s t run key pos u is =
-    let w = t.runs.width in
+    let w = t.runs.width.bits in
     let h : held_values w t.run ≡ run_values w (view run) = ap (held_values w) u.held in
     let long : t.at < length (held_values w t.run) = omega (arith, u.more, ap length h, length-values w (view run)) in
     let a : keys_to_come s ≡ take t.left (values_to_come t) = ap (λ n. take n (values_to_come s)) (sym u.left_is) ∙ ap (take t.left) (sym u.values) in
     let b = next_key t.left t.at (held_values w t.run) (flat_map (run_values w) (runs_to_come t.runs)) (omega (arith, u.left_is)) long in
     let k : get_or (held_values w t.run) t.at 0 ≡ key = ap (λ x. get_or x t.at 0) h ∙ sym is in
     a ∙ b ∙ ap (λ x. x ∷ take (t.left - 1) (drop (t.at + 1) (held_values w t.run) ++ flat_map (run_values w) (runs_to_come t.runs))) k
-
-take_none : (n : ℕ) (xs : List ℕ) → xs ≡ [] → take n xs ≡ []
-take_none n xs e = ap (take n) e ∙ take_all n [] (omega arith)
-
-pub no_key : (s t : Keys) (r : Option ℕ) → r ≡ None → (values_to_come s ≡ []) × (values_to_come t ≡ []) → Gives (keys_to_come s) r (keys_to_come t)
-no_key s t r e (a, b) =
-    subst (λ x. Gives (keys_to_come s) x (keys_to_come t)) (sym e) (take_none s.left (values_to_come s) a, take_none t.left (values_to_come t) b)

@@ -1,6 +1,7 @@
 -- The walk over a page agrees with what the page means, both ways.
 use Rattle.std.proofs.Common.{◌≡◌, ℕ, zero, suc, ◌+◌, ◌-◌, ◌*◌, ◌/◌, ◌%◌, ◌<◌, ◌≤◌, eqb, ltb, List, [], ◌∷◌, length, drop, Some, None, Ok, Err, Option, Result, sym, refl, ap, ◌∙◌, subst, inl, inr, arith}
-use Rattle.std.proofs.lemmas.Bool.{cases_Bool, ltb-true, ltb-false, eqb-true, eqb-false, lt-ltb, le-ltb, eq-eqb, ne_eqb}
+use Rattle.std.proofs.lemmas.Bool.Decides.{nat_tests}
+use Rattle.std.proofs.lemmas.Bool.{cases_Bool, ltb-true, ltb-false, eqb-true, eqb-false, lt-ltb, le-ltb, ne_eqb}
 use Rattle.page_format.specs.Bits.{read_varint, bytes_for}
 use Rattle.page_format.specs.Limits.{key_width}
 use Rattle.page_format.specs.declared.field.Field.{Field}
@@ -61,49 +62,19 @@ run_found w place left bs run size e = subst (λ s. Says w place left bs s) e (r
 pub run_missed : (w place left : ℕ) (bs : List ℕ) (k : ℕ) → read_run w place left bs ≡ no_run k → WrongRun w left bs k
 run_missed w place left bs k e = subst (λ s. Says w place left bs s) e (run_says w place left bs)
 
-pub header_even : (w place left : ℕ) (bs : List ℕ) (h n : ℕ) → 2 ≤ h → h % 2 ≡ 0 → header_step w place left bs h n ≡ repeat_step w place left bs (h / 2) n
-unfolding header_step
-header_even w place left bs h n long even = rw (le-ltb h 2 long, eq-eqb (h % 2) 0 even)
-
-pub header_odd : (w place left : ℕ) (bs : List ℕ) (h n : ℕ) → 2 ≤ h → (h % 2 ≡ 0 → ⊥) → header_step w place left bs h n ≡ packed_step w place bs (h / 2) n
-unfolding header_step
-header_odd w place left bs h n long odd = rw (le-ltb h 2 long, ne_eqb (h % 2) 0 odd)
-
-even_header : (w place left : ℕ) (bs : List ℕ) (count n : ℕ) → 0 < count → header_step w place left bs (2 * count) n ≡ repeat_step w place left bs count n
-even_header w place left bs count n pos =
-    let b : 2 * count / 2 ≡ count = omega arith in
-    header_even w place left bs (2 * count) n (omega arith) (omega arith) ∙ rw b
-
-odd_header : (w place left : ℕ) (bs : List ℕ) (groups n : ℕ) → 0 < groups → header_step w place left bs (2 * groups + 1) n ≡ packed_step w place bs groups n
-odd_header w place left bs groups n pos =
-    let b : (2 * groups + 1) / 2 ≡ groups = omega arith in
-    header_odd w place left bs (2 * groups + 1) n (omega arith) (λ z. omega arith) ∙ rw b
-
-pub headed : (w place left : ℕ) (bs : List ℕ) (h n : ℕ) → Header bs h n → read_run w place left bs ≡ header_step w place left bs h n
-unfolding read_run
-headed w place left bs h n e = ap (field_step w place left bs) e
-
 pub run_read : (w place left : ℕ) (bs : List ℕ) (run : ReadRun) (size : ℕ) → RunAt w place left bs run size → read_run w place left bs ≡ a_run run size
-unfolding repeat_step packed_step
-run_read w place left bs run size (a_repeat count n h pos few fits) =
-    headed w place left bs (2 * count) n h ∙ even_header w place left bs count n pos
-    ∙ rw (le-ltb left count few, le-ltb (length bs) (n + bytes_for w) fits)
-run_read w place left bs run size (a_packed groups n h pos few fits) =
-    headed w place left bs (2 * groups + 1) n h ∙ odd_header w place left bs groups n pos
-    ∙ rw (le-ltb most_values (8 * groups) few, le-ltb (length bs) (n + groups * w) fits)
+unfolding read_run header_step repeat_step packed_step
+run_read w place left bs run size (a_repeat count n h pos few fits) = grind (arith, nat_tests)
+run_read w place left bs run size (a_packed groups n h pos few fits) = grind (arith, nat_tests)
 
 pub run_wrong : (w place left : ℕ) (bs : List ℕ) (k : ℕ) → WrongRun w left bs k → read_run w place left bs ≡ no_run k
-unfolding header_step repeat_step packed_step read_run
-run_wrong w place left bs k (no_header b e) = ap (field_step w place left bs) e
-run_wrong w place left bs k (empty_run h n e lt) = headed w place left bs h n e ∙ rw (lt-ltb h 2 lt)
-run_wrong w place left bs k (too_many count n e lt) = headed w place left bs (2 * count) n e
-    ∙ even_header w place left bs count n (omega arith) ∙ rw (lt-ltb left count lt)
-run_wrong w place left bs k (cut_value count n e pos few lt) = headed w place left bs (2 * count) n e
-    ∙ even_header w place left bs count n pos ∙ rw (le-ltb left count few, lt-ltb (length bs) (n + bytes_for w) lt)
-run_wrong w place left bs k (too_long groups n e lt) = headed w place left bs (2 * groups + 1) n e
-    ∙ odd_header w place left bs groups n (omega arith) ∙ rw (lt-ltb most_values (8 * groups) lt)
-run_wrong w place left bs k (cut_groups groups n e pos few lt) = headed w place left bs (2 * groups + 1) n e
-    ∙ odd_header w place left bs groups n pos ∙ rw (le-ltb most_values (8 * groups) few, lt-ltb (length bs) (n + groups * w) lt)
+unfolding read_run header_step repeat_step packed_step
+run_wrong w place left bs k (no_header b e) = grind (arith, nat_tests)
+run_wrong w place left bs k (empty_run h n e lt) = grind (arith, nat_tests)
+run_wrong w place left bs k (too_many count n e lt) = grind (arith, nat_tests)
+run_wrong w place left bs k (cut_value count n e pos few lt) = grind (arith, nat_tests)
+run_wrong w place left bs k (too_long groups n e lt) = grind (arith, nat_tests)
+run_wrong w place left bs k (cut_groups groups n e pos few lt) = grind (arith, nat_tests)
 
 -- a run has a value, and lies within the bytes
 

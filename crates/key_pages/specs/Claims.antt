@@ -8,6 +8,7 @@ use Rattle.page_format.specs.Writes.{Wrote}
 use Rattle.key_pages.specs.Meaning.{FirstOutside}
 use Rattle.key_pages.specs.Runs.{Run, cut, page, most_bytes}
 use Rattle.key_pages.specs.Cuts.{Cuts}
+use Rattle.key_pages.specs.declared.width.KeyWidth.{KeyWidth}
 
 -- the rules give each key list its cut, and nothing else
 abbrev pub RulesCut : Type 0
@@ -22,6 +23,11 @@ WithinLimits w n = (w ≤ key_width) × (n ≤ page_values)
 
 abbrev pub OverLimit : ℕ → ℕ → Type 0
 OverLimit w n = (key_width < w) ⊎ (page_values < n)
+
+-- the width w of n keys, or number 2 above a limit
+abbrev pub Limited : ℕ → ℕ → Result KeyWidth Fault → Type 0
+Limited w n (Ok width) = WithinLimits w n × (width.bits ≡ w)
+Limited w n (Err f) = OverLimit w n × Rejected {X = KeyWidth} 2 4 0 (Err f)
 
 -- the most bytes of n keys at width w, or number 2 above a limit
 abbrev pub MostOf : ℕ → ℕ → Result ℕ Fault → Type 0

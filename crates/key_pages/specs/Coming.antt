@@ -1,27 +1,27 @@
 -- What is still to come from a page, and how it comes.
-use Rattle.std.specs.Prelude.{◌≡◌, ℕ, ◌+◌, ◌-◌, ◌<◌, List, [], ◌∷◌, ◌++◌, take, drop, Some, None, Ok, Err, Option, Result}
+use Rattle.std.specs.Prelude.{◌≡◌, ℕ, ◌+◌, ◌-◌, ◌<◌, List, [], ◌++◌, take, drop, Some, None, Ok, Err, Option, Result, true}
 use Rattle.std.specs.List.{flat_map, AllByRecursion}
+use Rattle.std.specs.Iterator.{YieldsFirstBy}
 use Rattle.key_pages.specs.Meaning.{ReadRun, run_length, run_values, FirstOutside}
 use Rattle.key_pages.specs.Reading.{Step, a_run, no_run, read_run, Walk, walk}
-use Rattle.key_pages.specs.Views.{view}
+use Rattle.key_pages.specs.Views.{view, holds_whole}
 use Rattle.key_pages.specs.declared.run.Run.{Run}
-use Rattle.key_pages.specs.declared.cursors.Runs.{Runs}
-use Rattle.key_pages.specs.declared.cursors.Keys.{Keys}
-use Rattle.key_pages.specs.declared.run_iter.Found.{Found}
-
--- a call at which xs were to come gave the first of them and left ys, or nothing was left
-abbrev pub Gives : {X : Type 0} → List X → Option X → List X → Type 0
-Gives xs None ys = (xs ≡ []) × (ys ≡ [])
-Gives xs (Some x) ys = xs ≡ x ∷ ys
+use Rattle.key_pages.specs.declared.runs.Runs.{Runs}
+use Rattle.key_pages.specs.declared.keys.Keys.{Keys}
+use Rattle.key_pages.specs.declared.runs.Found.{Found}
 
 -- a step of the walk, as the code answers it
 abbrev pub ReadAs : Step → Result Found ℕ → Type 0
 ReadAs s (Ok f) = s ≡ a_run (view f.run) f.size
 ReadAs s (Err k) = s ≡ no_run k
 
--- the run at the place that was reached
+-- the bytes from the place that was reached
+abbrev pub rest_of : Runs → List ℕ
+rest_of s = drop s.place s.page.now
+
+-- the run at that place
 abbrev pub next_step : Runs → Step
-next_step s = read_run s.width s.place s.left (drop s.place s.page.now)
+next_step s = read_run s.width.bits s.place s.left (rest_of s)
 
 pub record Behind (s : Runs) (run : ReadRun) (size : ℕ) (t : Runs) : Type 0 where
   pub read : next_step s ≡ a_run run size
@@ -36,10 +36,14 @@ Advanced s (Err p) t = ((k : ℕ) × (next_step s ≡ no_run k) × (p ≡ s.plac
 
 -- the walk from here
 abbrev pub walk_from : Runs → Walk
-walk_from s = walk s.width s.place s.left (drop s.place s.page.now)
+walk_from s = walk s.width.bits s.place s.left (rest_of s)
 
 abbrev pub runs_to_come : Runs → List ReadRun
 runs_to_come s = (walk_from s).runs
+
+-- the first of the runs to come, which is whole, or none; the width stays
+abbrev pub NextRun : Runs → Option Run → Runs → Type 0
+NextRun s r t = YieldsFirstBy view runs_to_come s r t × (holds_whole t.width.bits r ≡ true) × (t.width ≡ s.width)
 
 -- the values of the run in use
 abbrev pub held_values : ℕ → Option Run → List ℕ
@@ -48,7 +52,7 @@ held_values w (Some run) = run_values w (view run)
 
 -- the values from here, those past the last key too
 abbrev pub values_to_come : Keys → List ℕ
-values_to_come s = drop s.at (held_values s.runs.width s.run) ++ flat_map (run_values s.runs.width) (runs_to_come s.runs)
+values_to_come s = drop s.at (held_values s.runs.width.bits s.run) ++ flat_map (run_values s.runs.width.bits) (runs_to_come s.runs)
 
 abbrev pub keys_to_come : Keys → List ℕ
 keys_to_come s = take s.left (values_to_come s)

@@ -8,5 +8,6 @@ pub mod Held
 pub mod Reading
 pub mod Views
 pub mod Coming
+pub mod Accepting
 pub mod Opening
 pub mod Listing

@@ -1,21 +1,11 @@
 -- What it is to open a key page.
-use Rattle.std.specs.Prelude.{◌≡◌, ℕ, ◌<◌, ◌≤◌, ◌⊎◌, List, length}
-use Rattle.std.specs.List.{AllByRecursion}
+use Rattle.std.specs.Prelude.{◌≡◌, ℕ, ◌<◌, ◌⊎◌, List, length}
 use Rattle.page_format.specs.Faults.{Numbered}
 use Rattle.page_format.specs.Limits.{page_values, most_entries}
 use Rattle.page_format.specs.declared.fault.Fault.{Fault}
+pub use Rattle.key_pages.specs.Accepting.{WithinLimits, Accepted}
 use Rattle.key_pages.specs.Meaning.{ReadRun, Means, Malformed, keys_of, FirstOutside}
 use Rattle.key_pages.specs.declared.reader.KeyPage.{KeyPage}
-
-pub record WithinLimits (count entries : ℕ) : Type 0 where
-  pub few_values : count ≤ page_values
-  pub few_entries : entries ≤ most_entries
-
--- the page stands for these runs, and each of its keys names one of the entries
-pub record Accepted (page : List ℕ) (count entries w : ℕ) (runs : List ReadRun) : Type 0 where
-  pub limits : WithinLimits count entries
-  pub meaning : Means page count w runs
-  pub inside : AllByRecursion (λ key. key < entries) (keys_of w count runs)
 
 -- the tests in their order, and the fault of each
 pub data Refused (page : List ℕ) (count entries : ℕ) (f : Fault) : Type 0 where
@@ -30,6 +20,11 @@ pub record Opened (page : List ℕ) (count entries : ℕ) (p : KeyPage) : Type 0
   pub count_is : p.count ≡ count
   pub entries_is : p.entries ≡ entries
   pub accepted : (w : ℕ) × (runs : List ReadRun) × Accepted page count entries w runs
+
+-- P holds of the width and the runs that an opened page stands for. (The page's ghost field says that there are some, and cannot hand
+-- them out.)
+abbrev pub ByMeaning : KeyPage → (ℕ → List ReadRun → Type 0) → Type 0
+ByMeaning p P = (w : ℕ) (runs : List ReadRun) → Means p.page.now p.count w runs → P w runs
 
 -- a page with a count stands for one thing, which has so many keys, or is malformed at one place
 pub record Decided (page : List ℕ) (count : ℕ) : Type 0 where

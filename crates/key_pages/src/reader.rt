@@ -1,54 +1,33 @@
-// A key page that was opened.
-ghost use Rattle.std.specs.Prelude.{◌≡◌, ℕ, true, List, is_ok, IfOk, IfErr};
-ghost use Rattle.page_format.specs.declared.fault.Layer.TheVariants.{Reader};
-ghost use Rattle.key_pages.specs.Coming.{runs_to_come, keys_to_come};
-ghost use Rattle.key_pages.specs.Meaning.{ReadRun, Means, keys_of};
-ghost use Rattle.key_pages.specs.Opening.{Accepted, Refused, Opened, Decided};
-ghost use Rattle.key_pages.specs.Reading.{page_walk, width_of};
+//! A key page that was opened.
+ghost use Rattle.std.specs.Prelude.{List};
+ghost use Rattle.key_pages.specs.Accepting.{Accepted};
+ghost use Rattle.key_pages.specs.Meaning.{ReadRun};
 
-use crate::cursors::{Keys, Runs};
-use page_format::{Fault, Layer, MAX_ENTRIES, MAX_KEY_WIDTH, MAX_PAGE_VALUES, Rejection};
+use crate::keys::Keys;
+use crate::runs::Runs;
+use crate::width::KeyWidth;
+use page_format::{Fault, Layer, MAX_ENTRIES, MAX_PAGE_VALUES, Rejection};
 
 #[derive(Clone, Copy)]
 pub struct KeyPage<'a> {
     page: &'a [u8],
+    width: KeyWidth,
     count: usize,
     entries: usize,
-}
-
-// A fault of this layer.
-pub(crate) fn rejected(number: Rejection, place: usize) -> Fault
-    ensures fault { result ≡ record { number = number; layer = Reader; place = place } }
-{
-    Fault {
-        number,
-        layer: Layer::Reader,
-        place,
-    }
-}
-
-// The width of a page, if it has one that is not too large.
-fn width_of(page: &[u8]) -> Option<u8>
-    ensures width { result ≡ width_of page.now }
-{
-    if page.is_empty() || page[0] as usize > MAX_KEY_WIDTH {
-        return None;
-    }
-    Some(page[0])
-}
-
-// The place of the first wrong field.
-fn first_wrong(page: &[u8], count: usize) -> Option<usize>
-    ensures fault { result ≡ (page_walk page.now count).fault }
-{
-    let Some(width) = width_of(page) else {
-        return Some(0);
-    };
-    Runs::start(page, width, count).first_wrong()
+    ghost accepted: { ∥ ((runs : List ReadRun) × Accepted page.now count entries width.bits runs) ∥₁ },
 }
 
 impl<'a> KeyPage<'a> {
-    // Takes a page as one of so many keys to so many entries, or says why it is none.
+    ghost use Rattle.std.specs.Prelude.{◌≡◌, ℕ, ◌<◌, ◌≤◌, List, length, true, is_ok, IfOk, IfErr};
+    ghost use Rattle.page_format.specs.Faults.{Rejected};
+    ghost use Rattle.page_format.specs.Limits.{most_entries};
+    ghost use Rattle.key_pages.specs.Accepting.{Accepted};
+    ghost use Rattle.key_pages.specs.Coming.{runs_to_come, keys_to_come};
+    ghost use Rattle.key_pages.specs.Listing.{Listed};
+    ghost use Rattle.key_pages.specs.Meaning.{ReadRun, Means, keys_of};
+    ghost use Rattle.key_pages.specs.Opening.{Refused, Opened, ByMeaning, Decided};
+
+    /// Takes a page as one of so many keys to so many entries, or says why it is none.
     pub fn open(page: &'a [u8], count: usize, entries: usize) -> Result<KeyPage<'a>, Fault>
         ensures accepted { IfOk result (λ p. Opened page.now count entries p) }
         ensures complete { (w : ℕ) (runs : List ReadRun) → Accepted page.now count entries w runs → is_ok result ≡ true }
@@ -56,61 +35,61 @@ impl<'a> KeyPage<'a> {
         ensures decided { Decided page.now count }
     {
         if count > MAX_PAGE_VALUES || entries > MAX_ENTRIES {
-            return Err(rejected(Rejection::AboveLimit, 0));
+            return Err(Fault::new(Rejection::AboveLimit, Layer::Reader, 0));
         }
-        if let Some(place) = first_wrong(page, count) {
-            return Err(rejected(Rejection::MalformedPage, place));
+        let malformed = |place| Fault::new(Rejection::MalformedPage, Layer::Reader, place);
+        let runs = Runs::of_page(page, count).map_err(malformed)?;
+        if let Some(number) = Keys::start(runs, count).first_outside(entries) {
+            return Err(Fault::new(Rejection::KeyOutside, Layer::Reader, number));
         }
-        let opened = KeyPage {
+        Ok(KeyPage {
             page,
+            width: runs.width,
             count,
             entries,
-        };
-        if let Some(number) = opened.keys().first_outside(entries) {
-            return Err(rejected(Rejection::KeyOutside, number));
-        }
-        Ok(opened)
+        })
     }
 
-    // The bit width of the keys.
+    /// The bit width of the keys.
     pub fn width(&self) -> u8
-        ensures width { (w : ℕ) (runs : List ReadRun) → Means self.now.page.now self.now.count w runs → result ≡ w }
+        ensures width { ByMeaning self.now (λ w runs. result ≡ w) }
     {
-        width_of(self.page).unwrap_or(0)
+        u8::from(self.width)
     }
 
-    // The number of keys.
+    /// The number of keys.
     pub fn count(&self) -> usize
         ensures count { result ≡ self.now.count }
     {
         self.count
     }
 
-    // The runs, one by one.
+    /// The runs, one by one.
+    #[tactic(auto, using(crate::proofs::Opens::width_meant, crate::proofs::Opens::runs_meant))]
     pub fn runs(&self) -> Runs<'a>
-        ensures runs { (w : ℕ) (runs : List ReadRun) → Means self.now.page.now self.now.count w runs → runs_to_come result ≡ runs }
-        ensures width { (w : ℕ) (runs : List ReadRun) → Means self.now.page.now self.now.count w runs → result.width ≡ w }
+        ensures runs { ByMeaning self.now (λ w runs. runs_to_come result ≡ runs) }
+        ensures width { ByMeaning self.now (λ w runs. result.width.bits ≡ w) }
     {
-        let Some(width) = width_of(self.page) else {
-            return Runs {
-                page: self.page,
-                width: 0,
-                place: 0,
-                left: 0,
-            };
-        };
-        Runs::start(self.page, width, self.count)
+        Runs::start(self.page, self.width, self.count)
     }
 
-    // The keys, one by one.
+    /// The keys, one by one.
     pub fn keys(&self) -> Keys<'a>
-        ensures keys { (w : ℕ) (runs : List ReadRun) → Means self.now.page.now self.now.count w runs → keys_to_come result ≡ keys_of w self.now.count runs }
+        ensures keys { ByMeaning self.now (λ w runs. keys_to_come result ≡ keys_of w self.now.count runs) }
     {
-        Keys {
-            runs: self.runs(),
-            run: None,
-            at: 0,
-            left: self.count,
+        Keys::start(self.runs(), self.count)
+    }
+
+    /// Puts each key of the page once at the front of a list of at least 4,096 places, and answers how many they are.
+    #[tactic(auto, using(crate::proofs::Opens::keys_below))]
+    pub fn used_keys(&self, used: &mut [u32]) -> Result<usize, Fault>
+        ensures short { length used.old < most_entries → Rejected 9 5 1 result × (used.new ≡ used.old) }
+        ensures fits { most_entries ≤ length used.old → is_ok result ≡ true }
+        ensures listed { most_entries ≤ length used.old → (w : ℕ) (runs : List ReadRun) → Accepted self.now.page.now self.now.count self.now.entries w runs → Listed (keys_of w self.now.count runs) used.old result used.new }
+    {
+        if used.len() < MAX_ENTRIES {
+            return Err(Fault::new(Rejection::ShortBuffer, Layer::Reader, 1));
         }
+        Ok(self.keys().list_once(used))
     }
 }

@@ -1,9 +1,9 @@
-// A run of a key page. It borrows its bytes from the page, and `place` is where it begins there.
-ghost use Rattle.std.specs.Prelude.{◌≡◌, ◌+◌, ◌*◌, ◌<◌, ◌≤◌, true, length, slice_index};
+//! A run of a key page. It borrows its bytes from the page, and `place` is where it begins there. An enum whose parts are public keeps
+//! no fact, so `len` and `key` ask that the run is whole.
+ghost use Rattle.std.specs.Prelude.{◌≡◌, ◌+◌, ◌*◌, ◌≤◌, length};
 ghost use Rattle.page_format.specs.Bits.{le_number, packed_value};
-ghost use Rattle.key_pages.specs.Meaning.{run_length, run_values};
-ghost use Rattle.key_pages.specs.Views.{view, whole};
 
+use crate::width::KeyWidth;
 use page_format::{read_le, read_packed};
 
 #[derive(Clone, Copy)]
@@ -31,18 +31,22 @@ fn repeated_key(value: &[u8]) -> u32
 }
 
 // The value at an index of packed groups.
-fn packed_key(bytes: &[u8], width: u8, index: usize) -> u32
-    requires narrow { width ≤ 32 }
-    requires within { (index + 1) * width ≤ 8 * length bytes.now }
-    ensures value { result ≡ packed_value width bytes.now index }
+#[tactic(auto, using(crate::proofs::Fields::packed_fits))]
+fn packed_key(bytes: &[u8], width: KeyWidth, index: usize) -> u32
+    requires within { (index + 1) * width.bits ≤ 8 * length bytes.now }
+    ensures value { result ≡ packed_value width.bits bytes.now index }
 {
-    read_packed(bytes, width as usize, index).unwrap() as u32
+    read_packed(bytes, width.bits(), index).unwrap() as u32
 }
 
 impl Run<'_> {
+    ghost use Rattle.std.specs.Prelude.{◌≡◌, ℕ, ◌<◌, true, slice_index};
+    ghost use Rattle.key_pages.specs.Meaning.{run_length, run_values};
+    ghost use Rattle.key_pages.specs.Views.{view, whole};
+
     // How many values the run has.
-    pub(crate) fn len(&self, width: u8) -> usize
-        requires whole { whole width (view self.now) ≡ true }
+    pub(crate) fn len(&self) -> usize
+        requires whole { (w : ℕ) × (whole w (view self.now) ≡ true) }
         ensures count { result ≡ run_length (view self.now) }
     {
         match *self {
@@ -52,11 +56,11 @@ impl Run<'_> {
     }
 
     // The value at an index.
-    pub(crate) fn key(&self, width: u8, index: usize) -> u32
-        requires whole { whole width (view self.now) ≡ true }
-        requires narrow { width ≤ 32 }
+    #[tactic(auto, using(crate::proofs::Stepping::run_keys))]
+    pub(crate) fn key(&self, width: KeyWidth, index: usize) -> u32
+        requires whole { whole width.bits (view self.now) ≡ true }
         requires within { index < run_length (view self.now) }
-        ensures value { result ≡ slice_index (run_values width (view self.now)) index }
+        ensures value { result ≡ slice_index (run_values width.bits (view self.now)) index }
     {
         match *self {
             Run::Repeat { value, .. } => repeated_key(value),

@@ -1,9 +1,11 @@
-// Compares the reports on good, damaged and nonsensical pages with what a second reader expects of them.
-// The input has, for each, the lines of the request and then the lines of the report, each behind `= `.
+//! Compares the reports on good, damaged and nonsensical pages with what a second reader expects of them.
+//! The input has, for each, the lines of the request and then the lines of the report, each behind `= `: several of both, where
+//! `recorded::replay` takes one of each.
 #![tactic(auto)]
 
 use page_report::report;
-use std::io::{BufRead, BufReader};
+use recorded::Tally;
+use std::io::{BufRead, BufReader, Print};
 
 #[derive(Drop)]
 struct Case {
@@ -11,37 +13,28 @@ struct Case {
     expected: String,
 }
 
-#[derive(Clone, Copy)]
-struct Tally {
-    all: u32,
-    agree: u32,
-}
-
-fn judge(rt: &HostRuntime, case: &Case, tally: &mut Tally) -> anyhow::Result<()> {
-    let text = report(rt.alloc(), case.request.as_bytes())?;
-    tally.all = tally.all.saturating_add(1);
-    if text.as_str() == case.expected.as_str() {
-        tally.agree = tally.agree.saturating_add(1);
-    } else {
-        rt.print("differs: ")?;
-        rt.print(case.request.as_str())?;
-        rt.print(text)?;
+fn judge(rt: &(impl Print + AllocGlobal), case: &Case, tally: &mut Tally) -> anyhow::Result<()> {
+    let Case { request, expected } = case;
+    let text = report(rt.alloc(), request.as_bytes())?;
+    let agrees = text.as_str() == expected.as_str();
+    tally.count(agrees);
+    if !agrees {
+        print!(rt; "differs: {request}{text}")?;
     }
     Ok(())
 }
 
 fn main(rt: HostRuntime) -> anyhow::Result<()> {
-    let heap = rt.alloc();
-    let mut tally = Tally { all: 0, agree: 0 };
+    let alloc = rt.alloc();
+    let mut tally = Tally::new();
     let mut case = Case {
-        request: String::new(heap),
-        expected: String::new(heap),
+        request: String::new(alloc),
+        expected: String::new(alloc),
     };
-    for line in BufReader::new(heap, rt.stdin())?.lines(heap) {
+    for line in BufReader::new(alloc, rt.stdin())?.lines(alloc) {
         let line = line?;
         if let Some(expected) = line.as_str().strip_prefix("= ") {
-            case.expected.push_str(expected)?;
-            case.expected.push_str("\n")?;
+            writeln!(case.expected, "{expected}")?;
             continue;
         }
         if !case.expected.is_empty() {
@@ -49,11 +42,9 @@ fn main(rt: HostRuntime) -> anyhow::Result<()> {
             case.request.clear();
             case.expected.clear();
         }
-        case.request.push_str(line.as_str())?;
-        case.request.push_str("\n")?;
+        writeln!(case.request, "{line}")?;
     }
     judge(&rt, &case, &mut tally)?;
-    let Tally { all, agree } = tally;
-    println!(rt; "{agree} of {all} reports agree")?;
+    println!(rt; "{tally} reports agree")?;
     Ok(())
 }

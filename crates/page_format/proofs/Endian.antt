@@ -1,10 +1,11 @@
 -- Little-endian numbers: lengths, splits, and reading back.
-use Rattle.std.proofs.Common.{◌≡◌, ℕ, zero, suc, ◌+◌, ◌-◌, ◌*◌, ◌/◌, ◌%◌, ◌^◌, ◌<◌, ◌≤◌, List, [], ◌∷◌, ◌++◌, length, get_or, take, drop, set, sym, refl, ap, ◌∙◌, subst, inl, inr, mod-eq_of_lt, mul_assoc, mul_comm, arith, length-take}
+use Rattle.std.proofs.Common.{◌≡◌, ℕ, zero, suc, ◌+◌, ◌-◌, ◌*◌, ◌/◌, ◌%◌, ◌^◌, ◌<◌, ◌≤◌, List, [], ◌∷◌, ◌++◌, length, get_or, take, drop, replicate, sym, refl, ap, ◌∙◌, subst, inl, inr, mod-eq_of_lt, mul_assoc, mul_comm, length-append, arith, length-take}
 use native.Mathlib.Nat.{div-div-eq-div-mul}
-use lib.Bits.{bit_or}
+use mir.Syntax.{w128}
 use Rattle.std.proofs.lemmas.Bool.{cases_lt}
-use Rattle.std.proofs.lemmas.List.{take_more_set, append_assoc, drop_more, get_or-drop, get_or-take, get_or_past, length-take-le, drop-drop}
-use Rattle.std.proofs.lemmas.Nat.{mod-pow-add, pow-add, shr-shr, shr_high, shl_whole, or_shifted}
+use Rattle.std.proofs.lemmas.List.{get_or-take, get_or_past, length-take-le, drop-drop, length-replicate, take_all}
+use Rattle.std.proofs.lemmas.Nat.{mod-pow-add, pow-add, shr-shr, shr_high}
+use Rattle.std.specs.Int.{sum_through, byte_worth, from_le_bytes}
 use Rattle.page_format.specs.Bits.{le_bytes, le_number}
 
 pub length-le_bytes : (n x : ℕ) → length (le_bytes n x) ≡ n
@@ -53,25 +54,6 @@ take-le zero m x h = refl
 take-le (suc n) zero x h = absurd (omega arith)
 take-le (suc n) (suc m) x h = ap (λ t. x % 256 ∷ t) (take-le n m (x / 256) (omega arith))
 
--- one byte more in front of what is left
-pub wrote_more : (out : List ℕ) (j v : ℕ) (bs all : List ℕ) → j < length out → take j out ++ v ∷ bs ≡ all → take (j + 1) (set out j v) ++ bs ≡ all
-wrote_more out j v bs all h e = rw (take_more_set out j v h, append_assoc (take j out) (v ∷ []) bs) e
-
--- a byte more in front of the number
-pub value_turn : (bs : List ℕ) (v i : ℕ) → length bs ≤ 16 → 0 < i → i ≤ length bs → get_or bs (i - 1) 0 < 256
-    → v ≡ le_number (drop i bs) → v < 2 ^ (8 * (length bs - i))
-    → (bit_or (v * 2 ^ 8 % 2 ^ 128) (get_or bs (i - 1) 0) ≡ le_number (drop (i - 1) bs))
-    × (bit_or (v * 2 ^ 8 % 2 ^ 128) (get_or bs (i - 1) 0) < 2 ^ (8 * (length bs - (i - 1))))
-unfolding le_number
-value_turn bs v i few pos le byte is small =
-    let b : i - 1 + 1 ≡ i = omega arith in
-    let m : v * 2 ^ 8 % 2 ^ 128 ≡ v * 2 ^ 8 = shl_whole v (8 * (length bs - i)) 8 128 small (omega arith) in
-    let o : bit_or (v * 2 ^ 8 % 2 ^ 128) (get_or bs (i - 1) 0) ≡ v * 2 ^ 8 + get_or bs (i - 1) 0 = rw m (or_shifted v 8 (get_or bs (i - 1) 0) byte) in
-    let t : le_number (drop (i - 1) bs) ≡ get_or bs (i - 1) 0 + 256 * v = ap le_number (drop_more bs (i - 1) 0 (omega arith)) ∙ rw (b, is) refl in
-    let q : 8 * (length bs - (i - 1)) ≡ 8 * (length bs - i) + 8 = omega arith in
-    (o ∙ (omega arith), rw (o, q, pow-add 2 (8 * (length bs - i)) 8) (omega arith))
-
--- the number of a list of bytes, by its front and its back
 pub le_split : (n : ℕ) (bs : List ℕ) → le_number bs ≡ le_number (take n bs) + 2 ^ (8 * n) * le_number (drop n bs)
 unfolding le_number
 le_split zero bs = omega arith
@@ -86,10 +68,6 @@ le_below [] h = omega arith
 le_below (b ∷ bs) h =
     let e : 8 * suc (length bs) ≡ 8 + 8 * length bs = omega arith in
     rw (e, pow-add 2 8 (8 * length bs)) (omega (arith, h 0, le_below bs (λ i. h (suc i))))
-
--- parts of bytes are bytes
-pub bytes_drop : (n : ℕ) (bs : List ℕ) → ((i : ℕ) → get_or bs i 0 < 256) → (i : ℕ) → get_or (drop n bs) i 0 < 256
-bytes_drop n bs h i = rw (get_or-drop n bs i 0) (h (n + i))
 
 pub bytes_take : (n : ℕ) (bs : List ℕ) → ((i : ℕ) → get_or bs i 0 < 256) → (i : ℕ) → get_or (take n bs) i 0 < 256
 bytes_take n bs h i = elim (cases_lt i n) [
@@ -109,3 +87,43 @@ pub drop-later : (xs ys : List ℕ) (a b : ℕ) → a ≤ b → drop a xs ≡ dr
 drop-later xs ys a b h e =
     let f : a + (b - a) ≡ b = omega arith in
     ap (λ t. drop t xs) (sym f) ∙ sym (drop-drop (b - a) a xs) ∙ ap (drop (b - a)) e ∙ drop-drop (b - a) a ys ∙ ap (λ t. drop t ys) f
+
+-- the number at the front, byte by byte
+le_more : (bs : List ℕ) (n : ℕ) → le_number (take (n + 1) bs) ≡ le_number (take n bs) + get_or bs n 0 * 256 ^ n
+unfolding le_number
+le_more [] zero = refl
+le_more [] (suc n) = let e : suc n + 1 ≡ suc (n + 1) = omega arith in rw e (omega arith)
+le_more (b ∷ bs) zero = omega arith
+le_more (b ∷ bs) (suc n) =
+    let e : suc n + 1 ≡ suc (n + 1) = omega arith in
+    let d : suc n ≡ n + 1 = omega arith in
+    let p : get_or bs n 0 * 256 ^ suc n ≡ 256 * (get_or bs n 0 * 256 ^ n) =
+    ap (λ t. get_or bs n 0 * 256 ^ t) d ∙ ap (λ t. get_or bs n 0 * t) (pow-add 256 n 1) ∙ sym (mul_assoc (get_or bs n 0) (256 ^ n) 256) ∙ mul_comm (get_or bs n 0 * 256 ^ n) 256 in
+    let r : b + 256 * le_number (take (n + 1) bs) ≡ b + 256 * le_number (take n bs) + get_or bs n 0 * 256 ^ suc n = omega (arith, le_more bs n, p) in
+    rw e r
+
+-- and as a sum
+le_terms : (bs : List ℕ) (k : ℕ) → sum_through (λ i. byte_worth i (get_or bs i 0)) k ≡ le_number (take (k + 1) bs)
+unfolding le_number
+le_terms [] zero = refl
+le_terms (b ∷ bs) zero = omega arith
+le_terms bs (suc k) =
+    let e : suc k + 1 ≡ (k + 1) + 1 = omega arith in
+    let f : suc k ≡ k + 1 = omega arith in
+    rw (le_terms bs k, e, le_more bs (k + 1), f) refl
+
+le_zeros : (n : ℕ) → le_number (replicate n 0) ≡ 0
+unfolding le_number
+le_zeros zero = refl
+le_zeros (suc n) = omega (arith, le_zeros n)
+
+-- bytes of 0 behind count nothing
+le_padded : (bs : List ℕ) (n : ℕ) → le_number (bs ++ replicate n 0) ≡ le_number bs
+unfolding le_number
+le_padded [] n = le_zeros n
+le_padded (b ∷ bs) n = ap (λ t. b + 256 * t) (le_padded bs n)
+
+pub le_sixteen : (bs whole : List ℕ) → length bs ≤ 16 → whole ≡ bs ++ replicate (16 - length bs) 0 → from_le_bytes w128 whole ≡ le_number bs
+le_sixteen bs whole few is =
+    let long : length whole ≤ 16 = omega (arith, ap length is, length-append bs (replicate (16 - length bs) 0), length-replicate {A = ℕ} (16 - length bs) 0) in
+    le_terms whole 15 ∙ ap le_number (take_all 16 whole long ∙ is) ∙ le_padded bs (16 - length bs)

@@ -1,13 +1,12 @@
 -- Packed rows: size, steps of the packing loop, and reading back.
-use Rattle.std.proofs.Common.{◌≡◌, ℕ, zero, suc, ◌+◌, ◌-◌, ◌*◌, ◌/◌, ◌%◌, ◌^◌, ◌<◌, ◌≤◌, List, [], ◌∷◌, ◌++◌, length, get_or, take, drop, sym, refl, ap, ◌∙◌, subst, ap₂, mul_assoc, mul_comm, add-mul, mul-one, mul-add, arith, pow_mono}
+use Rattle.std.proofs.Common.{◌≡◌, ℕ, zero, suc, ◌+◌, ◌-◌, ◌*◌, ◌/◌, ◌%◌, ◌^◌, ◌<◌, ◌≤◌, List, [], ◌∷◌, ◌++◌, length, get_or, take, drop, sym, refl, ap, ◌∙◌, subst, ap₂, mul_assoc, mul_comm, add-mul, mul-one, mul-add, arith, pow_mono, length-append}
 use native.Mathlib.Nat.{add-mul-mod_self_left}
 use lib.Bits.{bit_or}
 use Rattle.std.proofs.lemmas.List.{append_assoc, drop_more, drop_all, length-map}
 use Rattle.std.proofs.lemmas.Nat.{pow-add, pow_pos, mul-le, shr-shr, shr_high, shr_below, mod_low, mod_below, field_of, shl_whole, or_shifted, or_comm}
 use Rattle.page_format.specs.Bits.{le_bytes, le_number, packed_number, packed_bytes, packed_value, low_bits, bytes_for}
-use Rattle.page_format.specs.Writes.{Wrote}
 use Rattle.page_format.specs.Laws.{PackedReadsBack, PackedLength, LeReadsBack}
-use Rattle.page_format.proofs.Endian.{length-le_bytes, le_append, le_low, le_reads, le_split, le_shift, drop-later}
+use Rattle.page_format.proofs.Endian.{length-le_bytes, le_append, le_low, le_reads, le_split, le_shift}
 
 pub packed_length : PackedLength
 unfolding packed_bytes
@@ -51,22 +50,20 @@ packed_reads_back w vs i h =
     let n : le_number (le_bytes ((length vs * w + 7) / 8) (packed_number w (low_bits w vs))) ≡ packed_number w (low_bits w vs) = le_reads _ _ (omega (arith, packed_below w vs)) in
     rw (l, n) (packed_at w vs i h)
 
--- the packing loop: at value i, `held` has the `bits` bits that are not written yet
-pub record Row (w at : ℕ) (vs out₀ out : List ℕ) (place bits held i : ℕ) : Type 0 where
+-- the packing loop: at value i, `front` is written, and `held` has the `bits` bits behind it
+pub record Row (w : ℕ) (vs : List ℕ) (bits held i : ℕ) (front : List ℕ) : Type 0 where
   pub few : bits < 64
   pub small : held < 2 ^ bits
-  pub begun : at ≤ place
-  pub so_far : 8 * (place - at) + bits ≡ i * w
-  pub whole : take place out ++ le_bytes (at + bytes_for (length vs * w) - place) (held + 2 ^ bits * packed_number w (low_bits w (drop i vs))) ≡ take at out₀ ++ packed_bytes w (low_bits w vs)
-  pub back : drop (at + bytes_for (length vs * w)) out ≡ drop (at + bytes_for (length vs * w)) out₀
+  pub so_far : 8 * length front + bits ≡ i * w
+  pub whole : front ++ le_bytes (bytes_for (length vs * w) - length front) (held + 2 ^ bits * packed_number w (low_bits w (drop i vs))) ≡ packed_bytes w (low_bits w vs)
 
-pub row_start : (w at : ℕ) (vs out : List ℕ) → Row w at vs out out at 0 0 0
+pub row_start : (w : ℕ) (vs : List ℕ) → Row w vs 0 0 0 []
 unfolding packed_bytes
-row_start w at vs out =
-    let t : at + bytes_for (length vs * w) - at ≡ bytes_for (length vs * w) = omega arith in
+row_start w vs =
     let n : 0 + 1 * packed_number w (low_bits w vs) ≡ packed_number w (low_bits w vs) = omega arith in
     let l : length (low_bits w vs) ≡ length vs = length-map vs (λ v. v % 2 ^ w) in
-    record { few = omega arith; small = omega arith; begun = omega arith; so_far = omega arith; whole = rw (t, n, l) refl; back = refl }
+    let z : bytes_for (length vs * w) - 0 ≡ bytes_for (length vs * w) = omega arith in
+    record { few = omega arith; small = omega arith; so_far = omega arith; whole = rw (n, l, z) refl }
 
 -- a value more above the bits that are held
 pub absorbs : (w bits held v : ℕ) → bits < 64 → w ≤ 64 → held < 2 ^ bits → v < 2 ^ w
@@ -77,7 +74,7 @@ absorbs w bits held v few narrow small fits =
       rw (pow-add 2 bits w) (omega (arith, mul-le (2 ^ bits) (v + 1) (2 ^ bits) (2 ^ w) (omega arith) (omega arith), mul-add (2 ^ bits) v 1, mul-one (2 ^ bits))),
     )
 
-module _ (w at : ℕ) (vs out₀ out : List ℕ) (place bits held i : ℕ) (r : Row w at vs out₀ out place bits held i) (in' : i < length vs) where
+module _ (w : ℕ) (vs front : List ℕ) (bits held i : ℕ) (r : Row w vs bits held i front) (in' : i < length vs) where
   step : held + 2 ^ bits * packed_number w (low_bits w (drop i vs))
       ≡ (held + 2 ^ bits * (get_or vs i 0 % 2 ^ w)) + 2 ^ (bits + w) * packed_number w (low_bits w (drop (i + 1) vs))
   unfolding packed_number
@@ -91,61 +88,49 @@ module _ (w at : ℕ) (vs out₀ out : List ℕ) (place bits held i : ℕ) (r : 
   before_end = mul-le (i + 1) w (length vs) w (omega arith) (omega arith)
 
   -- eight bytes more have their place
-  pub row_room : 64 ≤ bits + w → place + 8 ≤ at + bytes_for (length vs * w)
-  row_room full = omega (arith, before_end, add-mul i 1 w, r.so_far, r.begun)
+  pub row_room : 64 ≤ bits + w → length front + 8 ≤ bytes_for (length vs * w)
+  row_room full = omega (arith, before_end, add-mul i 1 w, r.so_far)
 
-  pub row_keeps : (h : ℕ) → h ≡ held + 2 ^ bits * (get_or vs i 0 % 2 ^ w) → h < 2 ^ (bits + w) → bits + w < 64 → Row w at vs out₀ out place (bits + w) h (i + 1)
+  pub row_keeps : (h : ℕ) → h ≡ held + 2 ^ bits * (get_or vs i 0 % 2 ^ w) → h < 2 ^ (bits + w) → bits + w < 64 → Row w vs (bits + w) h (i + 1) front
   row_keeps h is small few = record {
     few = few;
     small = small;
-    begun = r.begun;
     so_far = omega (arith, add-mul i 1 w, r.so_far);
-    whole = rw is (ap (λ t. take place out ++ le_bytes (at + bytes_for (length vs * w) - place) t) (sym step) ∙ r.whole);
-    back = r.back;
+    whole = rw is (ap (λ t. front ++ le_bytes (bytes_for (length vs * w) - length front) t) (sym step) ∙ r.whole);
   }
 
-  pub row_writes : (h : ℕ) (out' : List ℕ) → h ≡ held + 2 ^ bits * (get_or vs i 0 % 2 ^ w) → h < 2 ^ (bits + w) → 64 ≤ bits + w → w ≤ 64
-      → Wrote (le_bytes 8 (h % 2 ^ 64)) place out (place + 8) out' → Row w at vs out₀ out' (place + 8) (bits + w - 64) (h / 2 ^ 64) (i + 1)
-  row_writes h out' is small full narrow wrote =
+  pub row_writes : (h : ℕ) → h ≡ held + 2 ^ bits * (get_or vs i 0 % 2 ^ w) → h < 2 ^ (bits + w) → 64 ≤ bits + w → w ≤ 64
+      → Row w vs (bits + w - 64) (h / 2 ^ 64) (i + 1) (front ++ le_bytes 8 (h % 2 ^ 64))
+  row_writes h is small full narrow =
       let n = packed_number w (low_bits w (drop (i + 1) vs)) in
       let e : bits + w ≡ 64 + (bits + w - 64) = omega arith in
       let e' : bits + w ≡ (bits + w - 64) + 64 = omega arith in
       let room = row_room full in
+      let l : length (front ++ le_bytes 8 (h % 2 ^ 64)) ≡ length front + 8 = length-append front _ ∙ ap (λ t. length front + t) (length-le_bytes 8 _) in
       let x : held + 2 ^ bits * packed_number w (low_bits w (drop i vs)) ≡ h + 2 ^ 64 * (2 ^ (bits + w - 64) * packed_number w (low_bits w (drop (i + 1) vs))) =
       step ∙ ap (λ t. t + 2 ^ (bits + w) * packed_number w (low_bits w (drop (i + 1) vs))) (sym is)
       ∙ ap (λ t. h + t) (ap (λ t. t * packed_number w (low_bits w (drop (i + 1) vs))) (ap (λ t. 2 ^ t) e ∙ pow-add 2 64 (bits + w - 64)) ∙ mul_assoc (2 ^ 64) (2 ^ (bits + w - 64)) (packed_number w (low_bits w (drop (i + 1) vs)))) in
       let lo : (h + 2 ^ 64 * (2 ^ (bits + w - 64) * packed_number w (low_bits w (drop (i + 1) vs)))) % 2 ^ 64 ≡ h % 2 ^ 64 = omega arith in
       let hi : (h + 2 ^ 64 * (2 ^ (bits + w - 64) * packed_number w (low_bits w (drop (i + 1) vs)))) / 2 ^ 64 ≡ h / 2 ^ 64 + 2 ^ (bits + w - 64) * packed_number w (low_bits w (drop (i + 1) vs)) = omega arith in
-      let m : at + bytes_for (length vs * w) - place ≡ 8 + (at + bytes_for (length vs * w) - (place + 8)) = omega arith in
-      let all : le_bytes (at + bytes_for (length vs * w) - place) (held + 2 ^ bits * packed_number w (low_bits w (drop i vs)))
-      ≡ le_bytes 8 (h % 2 ^ 64) ++ le_bytes (at + bytes_for (length vs * w) - (place + 8)) (h / 2 ^ 64 + 2 ^ (bits + w - 64) * packed_number w (low_bits w (drop (i + 1) vs))) =
+      let m : bytes_for (length vs * w) - length front ≡ 8 + (bytes_for (length vs * w) - (length front + 8)) = omega arith in
+      let all : le_bytes (bytes_for (length vs * w) - length front) (held + 2 ^ bits * packed_number w (low_bits w (drop i vs)))
+      ≡ le_bytes 8 (h % 2 ^ 64) ++ le_bytes (bytes_for (length vs * w) - (length front + 8)) (h / 2 ^ 64 + 2 ^ (bits + w - 64) * packed_number w (low_bits w (drop (i + 1) vs))) =
       rw (m, x) (le_append 8 _ _ ∙ ap₂ (λ a b. a ++ b) (sym (le_low 8 _) ∙ ap (le_bytes 8) lo) (ap (le_bytes _) hi)) in
       record {
         few = omega (arith, r.few);
         small = shr_below h (bits + w - 64) 64 (subst (λ t. h < 2 ^ t) e' small);
-        begun = omega (arith, r.begun);
-        so_far = omega (arith, add-mul i 1 w, r.so_far, r.begun);
-        whole = rw wrote.front (append_assoc (take place out) _ _ ∙ ap (λ t. take place out ++ t) (sym all) ∙ r.whole);
-        back = drop-later out' out (place + 8) _ room wrote.back ∙ r.back;
+        so_far = omega (arith, add-mul i 1 w, r.so_far, l);
+        whole = rw l (append_assoc front _ _ ∙ ap (λ t. front ++ t) (sym all) ∙ r.whole);
       }
 
-pub row_ends : (w at : ℕ) (vs out₀ out : List ℕ) (place bits held i n : ℕ) (out' : List ℕ) → Row w at vs out₀ out place bits held i → i ≡ length vs
-    → n ≡ (bits + 7) / 8 → at + bytes_for (length vs * w) ≤ length out₀ → length out ≡ length out₀ → Wrote (le_bytes n held) place out (place + n) out'
-    → Wrote (packed_bytes w (low_bits w vs)) at out₀ (at + bytes_for (length vs * w)) out'
+pub row_ends : (w : ℕ) (vs front : List ℕ) (bits held i n : ℕ) → Row w vs bits held i front → i ≡ length vs → n ≡ (bits + 7) / 8 → front ++ le_bytes n held ≡ packed_bytes w (low_bits w vs)
 unfolding packed_number
-row_ends w at vs out₀ out place bits held i n out' r e long room same wrote =
+row_ends w vs front bits held i n r e long =
     let q : i * w ≡ length vs * w = ap (λ t. t * w) e in
     let d : drop i vs ≡ [] = drop_all i vs (omega arith) in
-    let m : at + bytes_for (length vs * w) - place ≡ n = omega (arith, r.so_far, r.begun) in
-    let f : place + n ≡ at + bytes_for (length vs * w) = omega (arith, r.so_far, r.begun) in
+    let m : bytes_for (length vs * w) - length front ≡ n = omega (arith, r.so_far) in
     let x : held + 2 ^ bits * packed_number w (low_bits w (drop i vs)) ≡ held = rw d (omega arith) in
-    let l : length (low_bits w vs) ≡ length vs = length-map vs (λ v. v % 2 ^ w) in
-    record {
-      end_is = ap (λ t. at + t) (sym (packed_length w (low_bits w vs) ∙ ap (λ t. bytes_for (t * w)) l));
-      fits = room;
-      front = ap (λ t. take t out') (sym f) ∙ wrote.front ∙ sym (ap (λ t. take place out ++ t) (ap₂ (λ a b. le_bytes a b) m x)) ∙ r.whole;
-      back = ap (λ t. drop t out') (sym f) ∙ wrote.back ∙ ap (λ t. drop t out) f ∙ r.back;
-    }
+    sym (ap (λ t. front ++ t) (ap₂ (λ a b. le_bytes a b) m x)) ∙ r.whole
 
 -- the bytes that a value lies in are enough to read it
 pub value_in : (w i : ℕ) (bs : List ℕ) (start len shift : ℕ) → ((k : ℕ) → get_or bs k 0 < 256) → i * w ≡ 8 * start + shift → start ≤ length bs → shift + w ≤ 8 * len

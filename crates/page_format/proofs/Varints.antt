@@ -1,10 +1,10 @@
 -- Varints: steps, lengths, and reading back.
-use Rattle.std.proofs.Common.{◌≡◌, ℕ, zero, suc, ◌+◌, ◌*◌, ◌/◌, ◌%◌, ◌^◌, ◌<◌, ◌≤◌, true, false, ltb, leb, List, [], ◌∷◌, ◌++◌, length, get_or, take, Ok, Err, sym, refl, ap, ◌∙◌, subst, inl, inr, mul_left_comm, arith, length-append, pow_mono}
-use Rattle.std.proofs.lemmas.List.{take_at}
+use Rattle.std.proofs.Common.{◌≡◌, ℕ, zero, suc, ◌+◌, ◌*◌, ◌/◌, ◌%◌, ◌^◌, ◌<◌, ◌≤◌, true, false, ltb, leb, List, [], ◌∷◌, ◌++◌, length, get_or, take, max, min, Ok, Err, sym, refl, ap, ◌∙◌, subst, inl, inr, mul_left_comm, arith, length-append, pow_mono}
+use Rattle.std.proofs.lemmas.List.{take_at, length-take, get_or-take}
 use Rattle.std.proofs.lemmas.Nat.{pow-add, mul-le, shl_whole}
 use Rattle.std.proofs.lemmas.Bool.{cases_Bool, cases_lt, ltb-false, lt-ltb, le-ltb, le-leb, lt-leb}
 use Rattle.page_format.specs.declared.field.BadField.TheVariants.{Cut, TooLong, TooLarge}
-use Rattle.page_format.specs.Bits.{varint_in, varint, continued, sevens, read_varint}
+use Rattle.page_format.specs.Bits.{BitsOf, varint_in, varint, continued, sevens, read_varint}
 use Rattle.page_format.specs.Laws.{VarintReadsBack, VarintLength}
 
 varint_none : (m : ℕ) → varint_in m 0 ≡ 0 ∷ []
@@ -68,6 +68,26 @@ varint_sevens (suc k) x pos h = elim (cases_lt x 128) [
   ])
 ]
 
+-- and no fewer: its bytes hold so many sevens
+varint_holds : (n x : ℕ) → x ≤ n → (0 < length (varint x)) × (x < 2 ^ (7 * length (varint x)))
+varint_holds zero x le = let e : x ≡ 0 = omega arith in rw (varint_last x (omega arith), e) (omega arith, omega arith)
+varint_holds (suc n) x le = elim (cases_lt x 128) [
+  | inl s ↦ rw (varint_last x s) (omega arith, omega arith)
+  | inr s ↦
+      let r = varint_holds n (x / 128) (omega arith) in
+      let e : 7 * suc (length (varint (x / 128))) ≡ 7 * length (varint (x / 128)) + 7 = omega arith in
+      rw (varint_more x s) (omega arith, rw (e, pow-add 2 (7 * length (varint (x / 128))) 7) (omega (arith, r.1)))
+]
+
+-- one byte for each seven bits, and one for 0
+pub varint_bytes_of : (x bits r : ℕ) → BitsOf x bits → r ≡ (max bits 1 + 6) / 7 → r ≡ length (varint x)
+varint_bytes_of x bits r b is =
+    let h = varint_holds x x (omega arith) in
+    let p : 2 ^ bits ≤ 2 ^ (7 * r) = pow_mono (omega arith) in
+    let above : length (varint x) ≤ r = varint_sevens r x (omega arith) (omega (arith, b.fits)) in
+    let below = b.least (7 * length (varint x)) h.1 in
+    omega (arith, h.0)
+
 pub varint_length : VarintLength
 varint_length w x pos h =
     let e : w ≤ 7 * ((w + 6) / 7) = omega arith in
@@ -121,18 +141,30 @@ sevens_more (x ∷ bs) (suc i) h =
     let f : 7 * suc i ≡ 7 + 7 * i = omega arith in
     rw (e, f, pow-add 2 7 (7 * i)) (omega (arith, sevens_more bs i (omega arith), mul_left_comm (get_or bs i 0 % 128) 128 (2 ^ (7 * i))))
 
--- seven bits more, above those that are in
-pub seven_more : (bs : List ℕ) (v i : ℕ) → i < 5 → i < length bs → v ≡ sevens (take i bs) → v < 2 ^ (7 * i)
-    → (v + get_or bs i 0 % 128 * 2 ^ (7 * i) % 2 ^ 64 ≡ sevens (take (i + 1) bs)) × (v + get_or bs i 0 % 128 * 2 ^ (7 * i) % 2 ^ 64 < 2 ^ (7 * (i + 1))) × (2 ^ (7 * (i + 1)) ≤ 2 ^ 35)
-seven_more bs v i few in' is small =
-    let b : ℕ = get_or bs i 0 % 128 in
-    let p : 7 * (i + 1) ≤ 35 = omega arith in
+-- the byte at place i of the five bytes at the front: seven bits more, above those that are in
+pub record Seven (bs : List ℕ) (byte i v : ℕ) : Type 0 where
+  pub within : i < length bs
+  pub few : i < 5
+  pub byte_is : get_or bs i 0 ≡ byte
+  pub value : v ≡ sevens (take (i + 1) bs)
+  pub small : v < 2 ^ (7 * (i + 1))
+
+pub seven_more : (bs front : List ℕ) (v i low : ℕ) → front ≡ take 5 bs → i < length front → low ≡ get_or front i 0 % 128 → v ≡ sevens (take i bs) → v < 2 ^ (7 * i)
+    → Seven bs (get_or front i 0) i (v + low * 2 ^ (7 * i) % 2 ^ 64)
+seven_more bs front v i low cut lt low_is is small =
+    let l : length front ≡ min 5 (length bs) = ap length cut ∙ length-take 5 bs in
+    let few : i < 5 = omega arith in
+    let g : get_or bs i 0 ≡ get_or front i 0 = sym (ap (λ t. get_or t i 0) cut ∙ get_or-take 5 bs i 0 few) in
+    let e : low ≡ get_or bs i 0 % 128 = low_is ∙ ap (λ t. t % 128) (sym g) in
     let q : 7 * (i + 1) ≡ 7 * i + 7 = omega arith in
-    let m : get_or bs i 0 % 128 * 2 ^ (7 * i) % 2 ^ 64 ≡ get_or bs i 0 % 128 * 2 ^ (7 * i) = shl_whole (get_or bs i 0 % 128) 7 (7 * i) 64 (omega arith) (omega arith) in (
-      rw m (omega (arith, sevens_more bs i in')),
-      rw (m, q, pow-add 2 (7 * i) 7) (omega (arith, mul-le (get_or bs i 0 % 128) (2 ^ (7 * i)) 127 (2 ^ (7 * i)) (omega arith) (omega arith))),
-      pow_mono p,
-    )
+    let m : low * 2 ^ (7 * i) % 2 ^ 64 ≡ low * 2 ^ (7 * i) = shl_whole low 7 (7 * i) 64 (omega arith) (omega arith) in
+    record {
+      within = omega arith;
+      few = few;
+      byte_is = g;
+      value = rw (m, e) (omega (arith, sevens_more bs i (omega arith)));
+      small = rw (m, q, pow-add 2 (7 * i) 7) (omega (arith, mul-le low (2 ^ (7 * i)) 127 (2 ^ (7 * i)) (omega arith) (omega arith)));
+    }
 
 -- and what it finds
 

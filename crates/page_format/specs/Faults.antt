@@ -1,10 +1,11 @@
 -- The numbers of rejections and layers. Every promise that names a fault goes through these.
-use Rattle.std.specs.Prelude.{◌≡◌, ℕ, Ok, Err, Result}
+use Rattle.std.specs.Prelude.{◌≡◌, ℕ, List, ◌++◌, Ok, Err, Result, codes, decimal, ◌≢◌}
 use Rattle.page_format.specs.declared.fault.Rejection.{Rejection}
 use Rattle.page_format.specs.declared.fault.Rejection.TheVariants.{MalformedArray, AboveLimit, IndexOutside, UnsuitedValue, PageFull, DictionaryFull, MemoryFull, KeysHeld, ShortBuffer, UnfitEncoding, MalformedPage, KeyOutside}
 use Rattle.page_format.specs.declared.fault.Layer.{Layer}
 use Rattle.page_format.specs.declared.fault.Layer.TheVariants.{Array, Store, Form, Writer, Reader}
 use Rattle.page_format.specs.declared.fault.Fault.{Fault}
+use Rattle.page_format.specs.declared.encoding.UnknownEncoding.{UnknownEncoding}
 use Rattle.page_format.specs.declared.encoding.Encoding.{Encoding}
 use Rattle.page_format.specs.declared.encoding.Encoding.TheVariants.{Plain, DeltaLengthByteArray, DeltaByteArray, RleDictionary}
 
@@ -33,6 +34,10 @@ layer_number Reader = 5
 abbrev pub Numbered : ℕ → ℕ → ℕ → Fault → Type 0
 Numbered n l p f = (rejection_number f.number ≡ n) × (layer_number f.layer ≡ l) × (f.place ≡ p)
 
+-- a fault as text: its number, its layer and its place
+abbrev pub fault_text : Fault → List ℕ
+fault_text f = codes "fault " ++ decimal (rejection_number f.number) ++ codes " " ++ decimal (layer_number f.layer) ++ codes " " ++ decimal f.place
+
 -- the call was rejected with this number, this layer and this place
 abbrev pub Rejected : {X : Type 0} → ℕ → ℕ → ℕ → Result X Fault → Type 0
 Rejected n l p (Ok x) = ⊥
@@ -44,6 +49,11 @@ encoding_number Plain = 0
 encoding_number DeltaLengthByteArray = 6
 encoding_number DeltaByteArray = 7
 encoding_number RleDictionary = 8
+
+-- the answer to a number: the encoding that has it, or that none has it
+abbrev pub HasEncoding : ℕ → Result Encoding UnknownEncoding → Type 0
+HasEncoding n (Ok e) = encoding_number e ≡ n
+HasEncoding n (Err u) = (u.0 ≡ n) × ((e : Encoding) → encoding_number e ≢ n)
 
 -- what a call told its caller: a value, or the number, the layer and the place of its fault
 pub data Told (X : Type 0) : Type 0 where

@@ -1,4 +1,4 @@
-// What the values of a column are.
+//! What the values of a column are.
 use crate::width::Width;
 
 #[derive(Clone, Copy, PartialEq, Eq, Debug)]

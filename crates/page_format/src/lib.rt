@@ -1,6 +1,7 @@
-// What every layer shares: faults, limits, the encodings' numbers, and the bit-level fields of a page.
+//! What every layer shares: faults, limits, the encodings' numbers, and the bit-level fields of a page.
 #![tactic(auto)]
 
+mod bit_writer;
 mod bits;
 mod column;
 mod encoding;
@@ -8,16 +9,15 @@ mod fault;
 mod field;
 mod fields;
 mod limits;
-mod numbers;
 mod width;
-mod widths;
 
+pub use bit_writer::BitWriter;
 pub use bits::{ceil, num_required_bits, trailing_bits, unzigzag, zigzag};
 pub use column::Column;
-pub use encoding::Encoding;
+pub use encoding::{Encoding, UnknownEncoding};
 pub use fault::{Fault, Layer, Rejection};
 pub use field::{BadField, Field};
-pub use fields::{pack, read_le, read_packed, read_varint, write_le, write_varint};
+pub use fields::{read_le, read_packed, read_varint};
 pub use limits::{
     MAX_ARRAY_VALUES, MAX_DATA_BYTES, MAX_ENTRIES, MAX_FIXED_WIDTH, MAX_KEY_WIDTH, MAX_PAGE_VALUES,
     MAX_RUN_GROUPS, MAX_VALUE_BYTES, TABLE_SLOTS, all_limits,

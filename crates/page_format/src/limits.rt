@@ -1,4 +1,4 @@
-// The limits, each once. `specs/Limits.antt` says what each one bounds.
+//! The limits, each once. `specs/Limits.antt` says what each one bounds.
 ghost use Rattle.std.specs.Prelude.{◌≡◌, [], ◌∷◌};
 ghost use Rattle.page_format.specs.Limits.{value_bytes, most_entries, page_values, array_values, data_bytes, fixed_width, key_width, table_slots, run_groups};
 
@@ -20,7 +20,7 @@ pub const TABLE_SLOTS: usize = 8192;
 
 pub const MAX_RUN_GROUPS: usize = 63;
 
-// All of them, in the order above.
+/// All of them, in the order above.
 pub fn all_limits() -> [usize; 9]
     ensures { result ≡ value_bytes ∷ most_entries ∷ page_values ∷ array_values ∷ data_bytes ∷ fixed_width ∷ key_width ∷ table_slots ∷ run_groups ∷ [] }
 {

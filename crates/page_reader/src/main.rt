@@ -1,4 +1,4 @@
-// Reads a key page as text from standard input, and prints what is in it.
+//! Reads a key page as text from standard input, and prints what is in it.
 #![tactic(auto)]
 
 use page_report::report;
@@ -11,6 +11,6 @@ const LONGEST: u64 = 1_048_577;
 fn main(rt: HostRuntime) -> io::Result<()> {
     let mut input = Vec::new(rt.alloc());
     rt.stdin().take(LONGEST).read_to_end(&mut input)?;
-    let text = report(rt.alloc(), input.as_slice())?;
+    let text = report(rt.alloc(), &input)?;
     rt.print(text)
 }

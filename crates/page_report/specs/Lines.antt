@@ -1,20 +1,20 @@
 -- The lines of a report, as bytes.
 use Rattle.std.specs.Prelude.{ℕ, Bool, true, false, List, ◌++◌, codes, decimal}
-use Rattle.page_format.specs.Faults.{rejection_number, layer_number}
+use Rattle.page_format.specs.Faults.{fault_text}
 use Rattle.page_format.specs.declared.fault.Fault.{Fault}
-use Rattle.page_text.specs.Complaints.{complaint_words}
+use Rattle.page_text.specs.Complaints.{complaint_text}
 use Rattle.page_text.specs.Pages.{hex}
 use Rattle.page_text.specs.Written.{spaced}
-use Rattle.page_text.specs.declared.Complaint.{Complaint}
+use Rattle.page_text.specs.declared.complaint.Complaint.{Complaint}
 use Rattle.key_pages.specs.Meaning.{ReadRun, repeats, packs}
 
 -- what is wrong with a text, and in which line
 abbrev pub complaint_line : ℕ → Complaint → List ℕ
-complaint_line line what = codes "line " ++ (decimal line ++ (codes ": " ++ (complaint_words what ++ codes "\n")))
+complaint_line line what = complaint_text line what ++ codes "\n"
 
 -- why a page was rejected
 abbrev pub fault_line : Fault → List ℕ
-fault_line f = codes "fault " ++ (decimal (rejection_number f.number) ++ (codes " " ++ (decimal (layer_number f.layer) ++ (codes " " ++ (decimal f.place ++ codes "\n")))))
+fault_line f = fault_text f ++ codes "\n"
 
 -- a run of this sort: its count or its groups, its bytes, and its place
 abbrev pub run_text : List ℕ → ℕ → List ℕ → ℕ → List ℕ
@@ -31,3 +31,7 @@ list_line word ks = word ++ (spaced ks ++ codes "\n")
 abbrev pub same_line : Bool → List ℕ
 same_line true = codes "same yes\n"
 same_line false = codes "same no\n"
+
+-- the lines of runs, and then those of keys and used keys, and whether the page is the same
+abbrev pub contents_text : List ℕ → List ℕ → List ℕ → Bool → List ℕ
+contents_text runs keys used same = runs ++ (list_line (codes "keys") keys ++ (list_line (codes "used") used ++ same_line same))

@@ -1,12 +1,14 @@
 -- What a report says of a text.
-use Rattle.std.specs.Prelude.{◌≡◌, ℕ, ◌-◌, ◌^◌, ◌<◌, Bool, List, ◌++◌, length, Some, None, vec_items, codes, Decides, Option, Vec, ◌≢◌, slice_index}
+use Rattle.std.specs.Prelude.{◌≡◌, ℕ, ◌-◌, ◌^◌, ◌<◌, Bool, List, ◌++◌, length, Ok, Err, Result, vec_items, codes, Decides, Vec, ◌≢◌, slice_index}
 use Rattle.std.specs.declared.alloc.Global.{Global}
 use Rattle.std.specs.List.{flat_map, ContainsAt as Has, AllByRecursion}
 use Rattle.page_format.specs.Bits.{BitsOf}
 use Rattle.page_format.specs.declared.fault.Fault.{Fault}
 use Rattle.page_text.specs.Requests.{Says, Short, Fault as TextFault}
-use Rattle.page_text.specs.declared.Complaint.{Complaint}
+use Rattle.page_text.specs.declared.complaint.Complaint.{Complaint}
 use Rattle.key_pages.specs.Claims.{WithinLimits}
+use Rattle.page_report.specs.declared.failure.Failure.{Failure}
+use Rattle.page_report.specs.declared.failure.Failure.TheVariants.{Rejected, Memory}
 use Rattle.key_pages.specs.Meaning.{ReadRun, keys_of}
 use Rattle.key_pages.specs.Opening.{Accepted, Refused}
 use Rattle.key_pages.specs.Runs.{page}
@@ -24,10 +26,11 @@ pub record Makes (w : ℕ) (keys bytes : List ℕ) : Type 0 where
   pub fits : AllByRecursion (λ k. k < 2 ^ w) keys
   pub is : page w keys ≡ bytes
 
--- the page that our writer makes of these keys, or none where it makes none
-abbrev pub OwnPage : ℕ → List ℕ → Option (Vec ℕ Global) → Type 0
-OwnPage w keys None = (bytes : List ℕ) → Makes w keys bytes → ⊥
-OwnPage w keys (Some v) = Makes w keys (vec_items v)
+-- the page that our writer makes of these keys, or that it makes none; nothing is said where memory ran out
+abbrev pub OwnPage : ℕ → List ℕ → Result (Vec ℕ Global) Failure → Type 0
+OwnPage w keys (Ok v) = Makes w keys (vec_items v)
+OwnPage w keys (Err (Rejected f)) = (bytes : List ℕ) → Makes w keys bytes → ⊥
+OwnPage w keys (Err (Memory e)) = Unit {0}
 
 -- what is told of a page that opens
 pub record Told (bytes : List ℕ) (count entries : ℕ) (text : List ℕ) : Type 0 where

@@ -1,92 +1,98 @@
-// What is told of a page.
+//! What is told of a page.
 ghost use Rattle.std.specs.Prelude.{◌≡◌, ℕ, List, IfOk, string_bytes, Decides};
-ghost use Rattle.key_pages.specs.Coming.{keys_to_come};
+ghost use Rattle.std.specs.List.{flat_map};
+ghost use Rattle.key_pages.specs.Coming.{runs_to_come};
 ghost use Rattle.key_pages.specs.Meaning.{ReadRun, keys_of};
 ghost use Rattle.key_pages.specs.Opening.{Accepted, Opened};
+ghost use Rattle.page_report.specs.Lines.{run_line};
 ghost use Rattle.page_report.specs.Reports.{Once, Makes, OwnPage, Told, Answered};
 
-use crate::lines::{fault_line, push_list, push_runs, push_same};
-use key_pages::{KeyPage, Keys, key_width, max_buffer_size, write_key_page};
+use crate::failure::Failure;
+use crate::lines::{Contents, RunLine};
+use key_pages::{KeyPage, Runs, key_width, max_buffer_size, write_key_page};
 use page_format::MAX_ENTRIES;
+use page_text::Request;
 use std::alloc::{AllocError, Global};
 
-// The keys that are to come.
-fn collect_keys(heap: Global, keys: Keys<'_>) -> Result<Vec<u32>, AllocError>
-    ensures { IfOk result (λ v. v.items ≡ keys_to_come keys.entry) }
+// `key_pages` allocates nothing and fills memory that it is lent, so a list here is made as long as it may get, and then cut.
+
+/// The page that our writer makes of these keys.
+pub fn own_page(alloc: Global, width: usize, keys: &[u32]) -> Result<Vec<u8>, Failure>
+    ensures makes { OwnPage width keys.now result }
 {
-    let mut list = Vec::new(heap);
-    for key in keys {
-        list.push(key)?;
+    let most = max_buffer_size(width, keys.len())?;
+    let mut buffer = vec![in alloc; 0u8; 1 + most]?;
+    let len = write_key_page(&mut buffer, width, keys)?;
+    buffer.truncate(len);
+    Ok(buffer)
+}
+
+// Whether our writer makes these bytes of these keys.
+fn makes(alloc: Global, width: usize, keys: &[u32], bytes: &[u8]) -> Result<bool, AllocError>
+    ensures { IfOk result (λ b. Decides b (Makes width keys.now bytes.now)) }
+{
+    match own_page(alloc, width, keys) {
+        Ok(page) => Ok(page.as_slice() == bytes),
+        Err(Failure::Rejected(_)) => Ok(false),
+        Err(Failure::Memory(error)) => Err(error),
     }
-    Ok(list)
 }
 
 // The keys that a page uses, each once.
-fn used_list(heap: Global, page: &KeyPage<'_>) -> Result<Vec<u32>, AllocError>
+fn used_list(alloc: Global, page: &KeyPage<'_>) -> Result<Vec<u32>, AllocError>
     ensures { IfOk result (λ v. (w : ℕ) (runs : List ReadRun) → Accepted page.now.page.now page.now.count page.now.entries w runs → Once (keys_of w page.now.count runs) v.items) }
 {
-    let mut list = vec![in heap; 0u32; MAX_ENTRIES]?;
-    let number = page.used_keys(list.as_mut_slice()).unwrap_or(0);
+    let mut list = vec![in alloc; 0u32; MAX_ENTRIES]?;
+    let number = page.used_keys(&mut list).unwrap();
     list.truncate(number);
     Ok(list)
 }
 
-// The page that our writer makes of these keys, or none where it rejects them.
-pub fn own_page(heap: Global, width: usize, keys: &[u32]) -> Result<Option<Vec<u8>>, AllocError>
-    ensures makes { IfOk result (λ o. OwnPage width keys.now o) }
+// A line for each run.
+fn run_lines(alloc: Global, runs: Runs<'_>) -> Result<String, AllocError>
+    ensures { IfOk result (λ s. string_bytes s ≡ flat_map run_line (runs_to_come runs.entry)) }
 {
-    let Ok(most) = max_buffer_size(width, keys.len()) else {
-        return Ok(None);
-    };
-    let mut buffer = vec![in heap; 0u8; 1 + most]?;
-    let Ok(len) = write_key_page(buffer.as_mut_slice(), width, keys) else {
-        return Ok(None);
-    };
-    buffer.truncate(len);
-    Ok(Some(buffer))
-}
-
-// Whether our writer makes these bytes of these keys.
-fn makes(heap: Global, width: usize, keys: &[u32], bytes: &[u8]) -> Result<bool, AllocError>
-    ensures { IfOk result (λ b. Decides b (Makes width keys.now bytes.now)) }
-{
-    match own_page(heap, width, keys)? {
-        Some(page) => Ok(page.as_slice() == bytes),
-        None => Ok(false),
+    let mut text = String::new(alloc);
+    for run in runs {
+        write!(text, "{}", RunLine(run))?;
     }
+    Ok(text)
 }
 
 // What is in a page that was opened.
 fn contents(
-    heap: Global,
+    alloc: Global,
     page: &KeyPage<'_>,
     bytes: &[u8],
     entries: usize,
 ) -> Result<String, AllocError>
     ensures { IfOk result (λ s. (count : ℕ) → Opened bytes.now count entries page.now → Told bytes.now count entries (string_bytes s)) }
 {
-    let keys = collect_keys(heap, page.keys())?;
-    let used = used_list(heap, page)?;
-    let same = makes(heap, key_width(entries), keys.as_slice(), bytes)?;
-    let mut text = String::new(heap);
-    push_runs(&mut text, page.runs())?;
-    push_list(&mut text, "keys", keys.as_slice())?;
-    push_list(&mut text, "used", used.as_slice())?;
-    push_same(&mut text, same)?;
-    Ok(text)
+    let runs = run_lines(alloc, page.runs())?;
+    let keys: Vec<u32> = page.keys().collect(alloc)?;
+    let used = used_list(alloc, page)?;
+    let same = makes(alloc, key_width(entries), &keys, bytes)?;
+    let contents = Contents {
+        runs,
+        keys,
+        used,
+        same,
+    };
+    contents.to_string(alloc)
 }
 
 // What is in a page, or why it is rejected.
-pub(crate) fn page_report(
-    heap: Global,
-    bytes: &[u8],
-    count: usize,
-    entries: usize,
-) -> Result<String, AllocError>
-    ensures { IfOk result (λ s. Answered bytes.now count entries (string_bytes s)) }
+pub(crate) fn page_report(alloc: Global, request: &Request) -> Result<String, AllocError>
+    ensures { IfOk result (λ s. Answered request.now.bytes.items request.now.count request.now.entries (string_bytes s)) }
 {
-    match KeyPage::open(bytes, count, entries) {
-        Ok(page) => contents(heap, &page, bytes, entries),
-        Err(fault) => fault_line(heap, fault),
+    let Request {
+        count,
+        bytes,
+        entries,
+    } = request;
+    let entries = *entries as usize;
+    match KeyPage::open(bytes, *count as usize, entries) {
+        Ok(page) => contents(alloc, &page, bytes, entries),
+        Err(fault) => format!(in alloc; "{fault}\n"),
     }
 }

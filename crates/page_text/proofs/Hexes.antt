@@ -1,54 +1,59 @@
 -- Hex digits, two for each byte. Assumes nothing.
-use Rattle.std.proofs.Common.{◌≡◌, ℕ, ◌+◌, ◌/◌, ◌%◌, ◌<◌, ◌≤◌, List, [], ◌∷◌, ◌++◌, length, get_or, take, drop, sym, refl, ap, ◌∙◌, subst, arith}
+use Rattle.std.proofs.Common.{◌≡◌, ℕ, zero, suc, ◌+◌, ◌*◌, ◌/◌, ◌%◌, ◌<◌, ◌≤◌, List, [], ◌∷◌, ◌++◌, length, get_or, take, drop, sym, refl, ap, ◌∙◌, subst, arith}
+use Rattle.std.specs.Simd.{first_chunks}
 use Rattle.std.proofs.ByRecursion.{All-push}
-use Rattle.std.proofs.lemmas.List.{append_assoc, take_more}
+use Rattle.std.proofs.lemmas.List.{append_assoc, take_more, get_or-take, get_or-drop}
 use Rattle.std.proofs.lemmas.Bool.Decides.{nat_tests}
+use Rattle.std.proofs.lemmas.Grind.{common_steps}
 use Rattle.page_text.specs.Pages.{hex_digit, hex, Bytes}
 use Rattle.page_text.proofs.Splits.{Lacks}
 
-pub hex_append : (xs ys : List ℕ) → hex (xs ++ ys) ≡ hex xs ++ hex ys
+hex_append : (xs ys : List ℕ) → hex (xs ++ ys) ≡ hex xs ++ hex ys
 unfolding hex
 hex_append [] ys = refl
 hex_append (x ∷ xs) ys = ap (λ l. hex_digit (x / 16) ∷ (hex_digit (x % 16) ∷ l)) (hex_append xs ys)
 
-pub hex_one : (b : ℕ) → hex (b ∷ []) ≡ hex_digit (b / 16) ∷ (hex_digit (b % 16) ∷ [])
+-- a byte more
+pub hex_more : (xs : List ℕ) (i : ℕ) → i < length xs → hex (take (i + 1) xs) ≡ hex (take i xs) ++ hex (get_or xs i 0 ∷ [])
+hex_more xs i l = ap hex (take_more xs i 0 l) ∙ hex_append (take i xs) (get_or xs i 0 ∷ [])
+
+pub ruleset hex_steps = (common_steps, hex_more)
+
+pub length-hex : (bs : List ℕ) → length (hex bs) ≡ 2 * length bs
 unfolding hex
-hex_one b = refl
+length-hex [] = refl
+length-hex (b ∷ bs) = omega (arith, length-hex bs)
 
-two_front : (rest : List ℕ) → 2 ≤ length rest → rest ≡ get_or rest 0 0 ∷ (get_or rest 1 0 ∷ drop 2 rest)
-two_front [] l = absurd (omega arith)
-two_front (x ∷ []) l = absurd (omega arith)
-two_front (x ∷ y ∷ rest) l = refl
-
--- a pair more is read
-pub hex_turn : (word vs vs' rest tail : List ℕ) (b : ℕ) → 2 ≤ length rest → word ≡ hex vs ++ rest → vs' ≡ vs ++ (b ∷ []) → get_or rest 0 0 ≡ hex_digit (b / 16) → get_or rest 1 0 ≡ hex_digit (b % 16) → tail ≡ drop 2 rest → word ≡ hex vs' ++ tail
-hex_turn word vs vs' rest tail b two e pushed p q t =
-    e
-    ∙ ap (λ t. hex vs ++ t) (two_front rest two ∙ ap (λ t. t ∷ (get_or rest 1 0 ∷ drop 2 rest)) p ∙ ap (λ t. hex_digit (b / 16) ∷ (t ∷ drop 2 rest)) q)
-    ∙ sym (append_assoc (hex vs) (hex_digit (b / 16) ∷ (hex_digit (b % 16) ∷ [])) (drop 2 rest))
-    ∙ sym (ap (λ t. t ++ drop 2 rest) (ap hex pushed ∙ hex_append vs (b ∷ []) ∙ ap (λ t. hex vs ++ t) (hex_one b)))
-    ∙ sym (ap (λ l. hex vs' ++ l) t)
-
-pub bytes_push : (vs vs' : List ℕ) (b : ℕ) → vs' ≡ vs ++ (b ∷ []) → Bytes vs → b < 256 → Bytes vs'
-bytes_push vs vs' b e s l = subst Bytes (sym e) (All-push (λ b. b < 256) vs b s l)
-
--- what is left behind the digits of some bytes is the digits of the others
-pub hex_left : (vs bs rest : List ℕ) → Bytes bs → hex vs ++ rest ≡ hex bs → (us : List ℕ) × Bytes us × (rest ≡ hex us)
+-- the digits of the byte in place i
+pub get_or_hex : (bs : List ℕ) (i : ℕ) → i < length bs → (get_or (hex bs) (2 * i) 0 ≡ hex_digit (get_or bs i 0 / 16)) × (get_or (hex bs) (2 * i + 1) 0 ≡ hex_digit (get_or bs i 0 % 16))
 unfolding hex
-hex_left [] bs rest h e = (bs, h, e)
-hex_left (v ∷ vs) [] rest h e = absurd (omega (arith, ap length e))
-hex_left (v ∷ vs) (b ∷ bs) rest h e = hex_left vs bs rest h.1 (ap (drop 2) e)
+get_or_hex [] i l = absurd (omega arith)
+get_or_hex (b ∷ bs) zero l = (refl, refl)
+get_or_hex (b ∷ bs) (suc i) l =
+    let high : 2 * suc i ≡ suc (suc (2 * i)) = omega arith in
+    let low : 2 * suc i + 1 ≡ suc (suc (2 * i + 1)) = omega arith in
+    rw (low, high) (get_or_hex bs i (omega arith))
 
--- a pair that writes no byte, or a lone digit, is not the front of digits
-pub no_pair : (us rest : List ℕ) → Bytes us → rest ≡ hex us → 2 ≤ length rest → ((b : ℕ) → b < 256 → get_or rest 0 0 ≡ hex_digit (b / 16) → get_or rest 1 0 ≡ hex_digit (b % 16) → ⊥) → ⊥
-unfolding hex
-no_pair [] rest s e two none = omega (arith, ap length e)
-no_pair (u ∷ us) rest s e two none = none u s.0 (ap (λ t. get_or t 0 0) e) (ap (λ t. get_or t 1 0) e)
+-- the two elements of chunk i
+pub get_or_first_chunks : (xs : List ℕ) (k i : ℕ) → i < k → (get_or (get_or (first_chunks 2 k xs) i []) 0 0 ≡ get_or xs (2 * i) 0) × (get_or (get_or (first_chunks 2 k xs) i []) 1 0 ≡ get_or xs (2 * i + 1) 0)
+get_or_first_chunks xs zero i l = absurd (omega arith)
+get_or_first_chunks xs (suc k) zero l = (get_or-take 2 xs 0 0 (omega arith), get_or-take 2 xs 1 0 (omega arith))
+get_or_first_chunks xs (suc k) (suc i) l =
+    let chunk = get_or_first_chunks (drop 2 xs) k i (omega arith) in
+    let high : 2 * suc i ≡ 2 + 2 * i = omega arith in
+    let low : 2 * suc i + 1 ≡ 2 + (2 * i + 1) = omega arith in
+    rw (low, high) (chunk.0 ∙ get_or-drop 2 xs (2 * i) 0, chunk.1 ∙ get_or-drop 2 xs (2 * i + 1) 0)
 
-pub no_lone : (us rest : List ℕ) → rest ≡ hex us → length rest < 2 → 0 < length rest → ⊥
+-- a pair more
+pub hex_pair_more : (word vs vs' : List ℕ) (i b : ℕ) → 2 * i + 1 < length word → vs' ≡ vs ++ (b ∷ []) → take (2 * i) word ≡ hex vs → get_or word (2 * i) 0 ≡ hex_digit (b / 16) → get_or word (2 * i + 1) 0 ≡ hex_digit (b % 16) → take (2 * (i + 1)) word ≡ hex vs'
 unfolding hex
-no_lone [] rest e l m = omega (arith, ap length e)
-no_lone (u ∷ us) rest e l m = omega (arith, ap length e)
+hex_pair_more word vs vs' i b l pushed e high low =
+    let next : 2 * (i + 1) ≡ 2 * i + 1 + 1 = omega arith in
+    rw (next, take_more word (2 * i + 1) 0 l, take_more word (2 * i) 0 (omega arith), e, high, low, pushed, hex_append vs (b ∷ []))
+    (append_assoc (hex vs) (hex_digit (b / 16) ∷ []) (hex_digit (b % 16) ∷ []))
+
+pub BytesPush : (vs vs' : List ℕ) (b : ℕ) → vs' ≡ vs ++ (b ∷ []) → Bytes vs → b < 256 → Bytes vs'
+BytesPush vs vs' b e s l = subst Bytes (sym e) (All-push (λ b. b < 256) vs b s l)
 
 -- different values have different digits
 same_digit : (c d : ℕ) → c < 16 → d < 16 → hex_digit c ≡ hex_digit d → c ≡ d
@@ -72,19 +77,3 @@ pub lacks_hex : (s : ℕ) (bs : List ℕ) → s < 48 → Lacks s (hex bs)
 unfolding hex
 lacks_hex s [] l = tt
 lacks_hex s (b ∷ bs) l = ((λ e. omega (arith, digit_apart (b / 16))), ((λ e. omega (arith, digit_apart (b % 16))), lacks_hex s bs l))
-
-digit_small : (d : ℕ) → d < 16 → hex_digit d < 128
-digit_small d l = grind (arith, nat_tests)
-
--- a byte more is written, as two characters
-pub hex_written : (base was one two bs : List ℕ) (i c d : ℕ) (cs ds : List ℕ) → i < length bs → get_or bs i 0 < 256 → was ≡ base ++ hex (take i bs) → one ≡ was ++ cs → two ≡ one ++ ds → c ≡ hex_digit (get_or bs i 0 / 16) → d ≡ hex_digit (get_or bs i 0 % 16) → (c < 128 → cs ≡ c ∷ []) → (d < 128 → ds ≡ d ∷ []) → two ≡ base ++ hex (take (i + 1) bs)
-hex_written base was one two bs i c d cs ds l s e f g p q asc asd =
-    let b = get_or bs i 0 in
-    let h : cs ≡ hex_digit (b / 16) ∷ [] = asc (omega (arith, p, digit_small (b / 16) (omega arith))) ∙ ap (λ t. t ∷ []) p in
-    let k : ds ≡ hex_digit (b % 16) ∷ [] = asd (omega (arith, q, digit_small (b % 16) (omega arith))) ∙ ap (λ t. t ∷ []) q in
-    g ∙ ap (λ t. t ++ ds) (f ∙ ap (λ t. t ++ cs) e)
-    ∙ ap (λ t. ((base ++ hex (take i bs)) ++ cs) ++ t) k
-    ∙ ap (λ t. ((base ++ hex (take i bs)) ++ t) ++ (hex_digit (b % 16) ∷ [])) h
-    ∙ append_assoc (base ++ hex (take i bs)) (hex_digit (b / 16) ∷ []) (hex_digit (b % 16) ∷ [])
-    ∙ append_assoc base (hex (take i bs)) (hex_digit (b / 16) ∷ (hex_digit (b % 16) ∷ []))
-    ∙ sym (ap (λ t. base ++ t) (ap hex (take_more bs i 0 l) ∙ hex_append (take i bs) (b ∷ []) ∙ ap (λ t. hex (take i bs) ++ t) (hex_one b)))

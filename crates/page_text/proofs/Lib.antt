@@ -1,6 +1,7 @@
 mod Splits
 mod Numerals
 mod Hexes
-mod Parsed
 mod Spaces
+mod Results
+mod Parsed
 mod Faults

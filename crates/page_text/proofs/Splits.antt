@@ -1,103 +1,73 @@
 -- `before` and `behind`: a text is cut at its first s. Assumes nothing.
-use Rattle.std.proofs.Common.{◌≡◌, ℕ, ◌+◌, ◌<◌, ◌≤◌, true, false, eqb, ◌⊎◌, List, [], ◌∷◌, ◌++◌, length, get_or, take, drop, sym, refl, ap, ◌∙◌, inl, inr, ⊎_elim, arith}
+use Rattle.std.proofs.Common.{◌≡◌, ℕ, zero, suc, ◌+◌, ◌<◌, ◌⊎◌, List, [], ◌∷◌, ◌++◌, length, get_or, take, drop, ◌≢◌, sym, refl, ap, ◌∙◌, inl, inr, arith}
 use Rattle.std.specs.List.{AllByRecursion}
-use Rattle.std.proofs.lemmas.List.{append-nil, append_assoc, nil_from_length, take_more, drop_more, take_all, drop_all}
-use Rattle.std.proofs.lemmas.Bool.{eq-eqb, ne_eqb, eqb-true, eqb-false, cases_eq}
+use Rattle.std.proofs.lemmas.Bool.{eq-eqb, ne_eqb, cases_eq}
+use Rattle.std.proofs.lemmas.List.{append-nil, take-append-drop, take_all, drop_more}
 use Rattle.page_text.specs.Lines.{before, behind}
 
 -- no byte of xs is s
 abbrev pub Lacks : ℕ → List ℕ → Type 0
-Lacks s xs = AllByRecursion (λ b. b ≡ s → ⊥) xs
+Lacks s xs = AllByRecursion (λ b. b ≢ s) xs
 
--- one byte on
-before_found : (s b : ℕ) (bs : List ℕ) → b ≡ s → before s (b ∷ bs) ≡ []
+-- a front with no s stays in front
+before_append : (s : ℕ) (p q : List ℕ) → Lacks s p → before s (p ++ q) ≡ p ++ before s q
 unfolding before
-before_found s b bs e = rw (eq-eqb b s e)
+before_append s [] q h = refl
+before_append s (b ∷ p) q h = rw (ne_eqb b s h.0) (ap (λ l. b ∷ l) (before_append s p q h.1))
 
-before_other : (s b : ℕ) (bs : List ℕ) → (b ≡ s → ⊥) → before s (b ∷ bs) ≡ b ∷ before s bs
-unfolding before
-before_other s b bs n = rw (ne_eqb b s n)
-
-behind_found : (s b : ℕ) (bs : List ℕ) → b ≡ s → behind s (b ∷ bs) ≡ bs
+behind_append : (s : ℕ) (p q : List ℕ) → Lacks s p → behind s (p ++ q) ≡ behind s q
 unfolding behind
-behind_found s b bs e = rw (eq-eqb b s e)
+behind_append s [] q h = refl
+behind_append s (b ∷ p) q h = rw (ne_eqb b s h.0) (behind_append s p q h.1)
 
-behind_other : (s b : ℕ) (bs : List ℕ) → (b ≡ s → ⊥) → behind s (b ∷ bs) ≡ behind s bs
-unfolding behind
-behind_other s b bs n = rw (ne_eqb b s n)
-
--- a front with no s, and then s
+-- the parts of a text with a first s, and of one with none
 pub before_at : (s : ℕ) (p q : List ℕ) → Lacks s p → before s (p ++ (s ∷ q)) ≡ p
-before_at s [] q h = before_found s s q refl
-before_at s (b ∷ p) q h = before_other s b (p ++ (s ∷ q)) h.0 ∙ ap (λ l. b ∷ l) (before_at s p q h.1)
+unfolding before
+before_at s p q h = before_append s p (s ∷ q) h ∙ rw (eq-eqb s s refl) (append-nil p)
 
 pub behind_at : (s : ℕ) (p q : List ℕ) → Lacks s p → behind s (p ++ (s ∷ q)) ≡ q
-behind_at s [] q h = behind_found s s q refl
-behind_at s (b ∷ p) q h = behind_other s b (p ++ (s ∷ q)) h.0 ∙ behind_at s p q h.1
+unfolding behind
+behind_at s p q h = behind_append s p (s ∷ q) h ∙ rw (eq-eqb s s refl) refl
 
--- no s at all
 pub before_all : (s : ℕ) (p : List ℕ) → Lacks s p → before s p ≡ p
 unfolding before
-before_all s [] h = refl
-before_all s (b ∷ p) h = before_other s b p h.0 ∙ ap (λ l. b ∷ l) (before_all s p h.1)
+before_all s p h = ap (before s) (sym (append-nil p)) ∙ before_append s p [] h ∙ append-nil p
 
 pub behind_none : (s : ℕ) (p : List ℕ) → Lacks s p → behind s p ≡ []
 unfolding behind
-behind_none s [] h = refl
-behind_none s (b ∷ p) h = behind_other s b p h.0 ∙ behind_none s p h.1
+behind_none s p h = ap (behind s) (sym (append-nil p)) ∙ behind_append s p [] h
+
+LacksTake : (s : ℕ) (xs : List ℕ) (i : ℕ) → ((k : ℕ) → k < i → get_or xs k 0 ≢ s) → Lacks s (take i xs)
+LacksTake s xs zero others = tt
+LacksTake s [] (suc i) others = tt
+LacksTake s (b ∷ xs) (suc i) others = (others 0 (omega arith), LacksTake s xs i (λ k l. others (suc k) (omega arith)))
+
+-- the parts, by the place of the first s, and where there is none
+pub cut_at : (s : ℕ) (xs : List ℕ) (i : ℕ) → i < length xs → get_or xs i 0 ≡ s → ((k : ℕ) → k < i → get_or xs k 0 ≢ s) → (take i xs ≡ before s xs) × (drop (i + 1) xs ≡ behind s xs)
+cut_at s xs i inside here others =
+    let whole : xs ≡ take i xs ++ (s ∷ drop (i + 1) xs) = sym (take-append-drop i xs) ∙ ap (λ l. take i xs ++ l) (drop_more xs i 0 inside ∙ ap (λ b. b ∷ drop (i + 1) xs) here) in
+    let lacks = LacksTake s xs i others in
+    (sym (ap (before s) whole ∙ before_at s (take i xs) _ lacks), sym (ap (behind s) whole ∙ behind_at s (take i xs) _ lacks))
+
+pub cut_none : (s : ℕ) (xs : List ℕ) → ((k : ℕ) → k < length xs → get_or xs k 0 ≢ s) → (xs ≡ before s xs) × ([] ≡ behind s xs)
+cut_none s xs others =
+    let lacks : Lacks s xs = rw (take_all (length xs) xs (omega arith)) at (LacksTake s xs (length xs) others) in
+    (sym (before_all s xs lacks), sym (behind_none s xs lacks))
 
 -- the cut text is its two parts, or it has no s
-abbrev pub Cut : ℕ → List ℕ → Type 0
-Cut s xs = (xs ≡ before s xs ++ (s ∷ behind s xs)) ⊎ ((xs ≡ before s xs) × (behind s xs ≡ []))
-
-pub cuts : (s : ℕ) (xs : List ℕ) → Cut s xs
+pub cuts : (s : ℕ) (xs : List ℕ) → (xs ≡ before s xs ++ (s ∷ behind s xs)) ⊎ ((xs ≡ before s xs) × (behind s xs ≡ []))
 unfolding before behind
 cuts s [] = inr (refl, refl)
 cuts s (b ∷ bs) =
-    ⊎_elim
-    (λ e. inl (ap (λ x. x ∷ bs) e ∙ sym (ap (λ l. l ++ (s ∷ bs)) (before_found s b bs e)) ∙ sym (ap (λ l. before s (b ∷ bs) ++ (s ∷ l)) (behind_found s b bs e))))
-    (λ n. ⊎_elim
-    (λ w. inl (ap (λ l. b ∷ l) w ∙ sym (ap (λ l. l ++ (s ∷ behind s bs)) (before_other s b bs n)) ∙ sym (ap (λ l. before s (b ∷ bs) ++ (s ∷ l)) (behind_other s b bs n))))
-    (λ w. inr (ap (λ l. b ∷ l) w.0 ∙ sym (before_other s b bs n), behind_other s b bs n ∙ w.1))
-    (cuts s bs))
-    (cases_eq b s)
+    elim (cases_eq b s) [
+      | inl e ↦ rw (eq-eqb b s e) (inl (ap (λ x. x ∷ bs) e))
+      | inr n ↦ rw (ne_eqb b s n) (elim (cuts s bs) [ inl w ↦ inl (ap (λ l. b ∷ l) w) | inr w ↦ inr (ap (λ l. b ∷ l) w.0, w.1) ])
+    ]
 
 -- where something stands behind it, s is there
-pub cut_some : (s : ℕ) (xs : List ℕ) → (behind s xs ≡ [] → ⊥) → xs ≡ before s xs ++ (s ∷ behind s xs)
-cut_some s xs some = ⊎_elim (λ w. w) (λ w. absurd (some w.1)) (cuts s xs)
-
--- the loop: the first i bytes are passed
-abbrev pub Passed : ℕ → List ℕ → ℕ → Type 0
-Passed s xs i = (take i xs ++ before s (drop i xs) ≡ before s xs) × (behind s (drop i xs) ≡ behind s xs)
-
-pub passed_more : (s : ℕ) (xs : List ℕ) (i : ℕ) → i < length xs → (get_or xs i 0 ≡ s → ⊥) → Passed s xs i → Passed s xs (i + 1)
-passed_more s xs i l n (f, b) =
-    let d = drop_more xs i 0 l in (
-      ap (λ t. t ++ before s (drop (i + 1) xs)) (take_more xs i 0 l)
-          ∙ append_assoc (take i xs) (get_or xs i 0 ∷ []) (before s (drop (i + 1) xs))
-          ∙ ap (λ t. take i xs ++ t) (sym (ap (before s) d ∙ before_other s (get_or xs i 0) (drop (i + 1) xs) n))
-          ∙ f,
-      sym (ap (behind s) d ∙ behind_other s (get_or xs i 0) (drop (i + 1) xs) n) ∙ b,
-    )
-
-pub passed_found : (s : ℕ) (xs : List ℕ) (i : ℕ) → i < length xs → get_or xs i 0 ≡ s → Passed s xs i → (take i xs ≡ before s xs) × (drop (i + 1) xs ≡ behind s xs)
-passed_found s xs i l e (f, b) =
-    let d = drop_more xs i 0 l in (
-      sym (append-nil (take i xs)) ∙ sym (ap (λ t. take i xs ++ t) (ap (before s) d ∙ before_found s (get_or xs i 0) (drop (i + 1) xs) e)) ∙ f,
-      sym (ap (behind s) d ∙ behind_found s (get_or xs i 0) (drop (i + 1) xs) e) ∙ b,
-    )
-
-pub passed_all : (s : ℕ) (xs : List ℕ) (i : ℕ) → length xs ≤ i → Passed s xs i → (xs ≡ before s xs) × ([] ≡ behind s xs)
-unfolding before behind
-passed_all s xs i l (f, b) =
-    let d = drop_all i xs l in (
-      sym (take_all i xs l) ∙ sym (append-nil (take i xs)) ∙ sym (ap (λ t. take i xs ++ before s t) d) ∙ f,
-      sym (ap (behind s) d) ∙ b,
-    )
-
--- what `is_empty` says of a slice
-pub empty_from_test : (xs : List ℕ) → true ≡ eqb (length xs) 0 → xs ≡ []
-empty_from_test xs t = nil_from_length xs (eqb-true (length xs) 0 (sym t))
-
-pub some_from_test : (xs : List ℕ) → false ≡ eqb (length xs) 0 → 0 < length xs
-some_from_test xs t = omega (arith, eqb-false (length xs) 0 (sym t))
+pub joined : (s : ℕ) (xs p q : List ℕ) → before s xs ≡ p → behind s xs ≡ q → q ≢ [] → xs ≡ p ++ (s ∷ q)
+joined s xs p q front back some =
+    elim (cuts s xs) [
+      | inl w ↦ w ∙ ap (λ t. t ++ (s ∷ behind s xs)) front ∙ ap (λ t. p ++ (s ∷ t)) back
+      | inr w ↦ absurd (some (sym back ∙ w.1))
+    ]

@@ -1,11 +1,11 @@
-use crate::{Complaint, Input, push_hex, push_number, push_numbers, read_request};
+use crate::{
+    Complaint, Hex, RequestError, Spaced, Wrong, push_hex, push_number, push_numbers, read_request,
+};
 use std::test::Fail;
 
 #[test]
 fn reads_and_writes(rt: HostRuntime) -> Result<(), Fail> {
-    let Input::Asked(request) = read_request(rt.alloc(), b"page 8 3 :01FF02\nentries 2")? else {
-        return Err(Fail::new("refused"));
-    };
+    let request = read_request(rt.alloc(), b"page 8 3 :01FF02\nentries 2")?;
     let mut text = String::new(rt.alloc());
     push_number(&mut text, request.count)?;
     text.push_str(" :")?;
@@ -26,12 +26,25 @@ fn refuses(rt: HostRuntime) -> Result<(), Fail> {
         (b"page 8 0 :\n", 2, Complaint::NotEntriesLine),
         (b"page 8 0 :\nentries 0\n\n", 3, Complaint::LineTooMany),
     ];
-    for (text, at, why) in texts {
-        let Input::Wrong { line, what } = read_request(rt.alloc(), text)? else {
+    for (text, line, what) in texts {
+        let Err(error) = read_request(rt.alloc(), text) else {
             return Err(Fail::new("accepted"));
         };
-        assert_eq!(rt; line, at);
-        assert!(rt; what == why);
+        assert_eq!(rt; error, RequestError::Wrong(Wrong { line, what }));
     }
+    Ok(())
+}
+
+#[test]
+fn prints(rt: HostRuntime) -> Result<(), Fail> {
+    let mut text = format!(in rt.alloc(); "{}", Hex(b"foobar"))?;
+    write!(text, "{}", Spaced(&[7, 10]))?;
+    assert_eq!(rt; text.as_str(), "666F6F626172 7 10");
+    let wrong = Wrong::from(Complaint::LineTooMany);
+    let text = wrong.to_string(rt.alloc())?;
+    assert_eq!(rt;
+        text.as_str(),
+        "line 3: nothing may follow the entries line"
+    );
     Ok(())
 }

@@ -1,4 +1,4 @@
-// The words of a line: its parts, numbers and bytes.
+//! The words of a line: its parts, numbers and bytes.
 ghost use Rattle.std.specs.Prelude.{◌≡◌, ℕ, ◌/◌, ◌%◌, ◌^◌, ◌<◌, List, IfOk, decimal, MatchOption, ◌≢◌};
 ghost use Rattle.page_text.specs.Lines.{before, behind};
 ghost use Rattle.page_text.specs.Pages.{hex_digit, hex, Bytes};
@@ -6,38 +6,26 @@ ghost use Rattle.page_text.specs.Pages.{hex_digit, hex, Bytes};
 use std::alloc::{AllocError, Global};
 use std::str::from_utf8;
 
-// What stands before the first `byte`, and what stands behind it.
+/// What stands before the first `byte`, and what stands behind it.
 pub fn split(text: &[u8], byte: u8) -> (&[u8], &[u8])
     ensures front { result.0.now ≡ before byte text.now }
     ensures back { result.1.now ≡ behind byte text.now }
 {
-    for (i, b) in text.iter().enumerate() {
-        if *b == byte {
-            return (&text[0..i], &text[i + 1..]);
-        }
+    match text.iter().position(|b| *b == byte) {
+        Some(i) => (&text[..i], &text[i + 1..]),
+        None => (text, &[]),
     }
-    (text, &[])
 }
 
-// The number that a whole word writes, with no sign and no leading zero.
+/// The number that a whole word writes, with no sign and no leading zero.
 pub fn number(word: &[u8]) -> Option<u64>
     ensures reads { MatchOption result ((n : ℕ) → n < 2 ^ 64 → word.now ≢ decimal n) (λ n. (n < 2 ^ 64) × (word.now ≡ decimal n)) }
 {
-    let Ok(text) = from_utf8(word) else {
-        return None;
-    };
-    let Ok(number) = text.parse::<u64>() else {
-        return None;
-    };
-    let first = *word.first()?;
-    // `parse` also takes a `+` and zeros in front.
-    if first == b'+' {
-        return None;
+    match word {
+        // `parse` also takes these.
+        [b'+', ..] | [b'0', _, ..] => None,
+        _ => from_utf8(word).ok()?.parse().ok(),
     }
-    if first == b'0' && word.len() > 1 {
-        return None;
-    }
-    Some(number)
 }
 
 fn hex_value(digit: u8) -> Option<u8>
@@ -57,22 +45,20 @@ fn hex_pair(high: u8, low: u8) -> Option<u8>
     Some(hex_value(high)? * 16 + hex_value(low)?)
 }
 
-// The bytes that a whole word writes.
-pub fn hex_bytes(heap: Global, word: &[u8]) -> Result<Option<Vec<u8>>, AllocError>
+/// The bytes that a whole word writes.
+pub fn hex_bytes(alloc: Global, word: &[u8]) -> Result<Option<Vec<u8>>, AllocError>
     ensures reads { IfOk result (λ o. MatchOption o ((bs : List ℕ) → Bytes bs → word.now ≢ hex bs) (λ v. Bytes v.items × (word.now ≡ hex v.items))) }
 {
-    let mut bytes = Vec::new(heap);
-    let mut rest = word;
-    while let [high, low, tail @ ..] = rest {
+    let (pairs, rest) = word.as_chunks::<2>();
+    if !rest.is_empty() {
+        return Ok(None);
+    }
+    let mut bytes = Vec::with_capacity(alloc, pairs.len())?;
+    for [high, low] in pairs {
         let Some(byte) = hex_pair(*high, *low) else {
             return Ok(None);
         };
         bytes.push(byte)?;
-        rest = tail;
     }
-    if rest.is_empty() {
-        Ok(Some(bytes))
-    } else {
-        Ok(None)
-    }
+    Ok(Some(bytes))
 }

@@ -1,23 +1,27 @@
-use Rattle.std.proofs.Common.{◌≡◌, ◌*◌, ◌%◌, ◌^◌, ◌<◌, subst, arith}
-use Rattle.std.specs.List.{AllByRecursion}
+use Rattle.std.proofs.Common.{◌≡◌, ℕ, ◌*◌, ◌%◌, ◌^◌, ◌<◌, ◌≤◌, Some, None, Option, List, length, take, MatchOption, subst, ◌∙◌, sym, ap, arith, rules, tests}
+use Rattle.std.specs.List.{AllByRecursion, AllWithin, HoldsAt}
+use Rattle.std.proofs.ByRecursion.{all_from_every, All-from_get_or}
+use Rattle.std.proofs.lemmas.List.{get_or-take, length-take-le}
+use Rattle.std.proofs.lemmas.Iterator.{IsFirst-from_position, YieldsList-from_slice}
 use Rattle.std.proofs.lemmas.Nat.{one_shl}
-use Rattle.std.proofs.lemmas.List.{take_all}
-use Rattle.std.proofs.ByRecursion.{All-more}
+use Rattle.key_pages.specs.Meaning.{FirstOutside}
 use Rattle.key_pages.proofs.pages.first_outside.Goals as goal
 
-pub loop-i-init : goal.loop-i-init
-loop-i-init c = tt
-
-pub returns-then-key-bound : goal.returns-then-key-bound
-returns-then-key-bound c =
-    let b : (1 * 2 ^ c.args.width) % 2 ^ 64 ≡ 2 ^ c.args.width = one_shl c.args.width 64 (omega (arith, c.requires)) in
-    record { first = record { inside = c.loop-i-test.true; outside = omega (arith, c.if-key-bound.true); first = c.loop-i.invariant } }
-
-pub loop-i-preserved : goal.loop-i-preserved
-loop-i-preserved c =
-    let b : (1 * 2 ^ c.args.width) % 2 ^ 64 ≡ 2 ^ c.args.width = one_shl c.args.width 64 (omega (arith, c.requires)) in
-    All-more (λ k. k < 2 ^ c.args.width) c.args.keys.now c.loop-i.i 0 c.loop-i-test.true c.loop-i.invariant (omega (arith, c.if-key-bound.false))
+first : (b : ℕ) (ks : List ℕ) (r : Option ℕ)
+    → MatchOption r (AllWithin (λ k. k < b) ks 0 (length ks)) (λ i. (i < length ks) × HoldsAt (λ k. b ≤ k) ks i × AllWithin (λ k. k < b) ks 0 i)
+    → MatchOption r (AllByRecursion (λ k. k < b) ks) (λ i. FirstOutside ks b i)
+first b ks None h = all_from_every (λ k. k < b) ks h
+first b ks (Some i) (inside, outside, before) = record {
+  inside = inside;
+  outside = outside 0;
+  first = All-from_get_or (λ k. k < b) (take i ks) 0 (λ k lt. let h : k < i = omega (arith, length-take-le i ks (omega arith)) in subst (λ t. t < b) (sym (get_or-take i ks k 0 h)) (before k 0 (omega arith) h));
+}
 
 pub returns : goal.returns
-returns c = record
-    { first = subst (λ t. AllByRecursion (λ k. k < 2 ^ c.args.width) t) (take_all c.loop-i.i c.args.keys.now c.loop-i-test.false) c.loop-i.invariant }
+returns c =
+    let w = c.args.width.bits in
+    let b : (1 * 2 ^ c.bits.result) % 2 ^ 64 ≡ 2 ^ w = one_shl c.bits.result 64 (omega (arith, c.bits.ensures, c.args.width.narrow)) ∙ ap (λ t. 2 ^ t) c.bits.ensures in
+    record {
+      first = first (2 ^ w) c.args.keys.now c.position.result
+          (IsFirst-from_position _ _ _ (λ k. 2 ^ w ≤ k) (λ k. k < 2 ^ w) c.position.ensures.ran (YieldsList-from_slice c.args.keys.now cc) (λ x q k. search (rules, tests, b)) (λ x q k. search (rules, tests, b)));
+    }

@@ -1,41 +1,27 @@
-use Rattle.std.proofs.Common.{refl, arith}
-use Rattle.std.proofs.lemmas.Result.{err_from_is_err_and}
-use Rattle.key_pages.specs.Claims.{above_limit, short_buffer, key_outside}
-use Rattle.key_pages.proofs.Ruling.{rules_cut, only_cut}
-use Rattle.key_pages.proofs.RoundTrip.{page_reads_back}
-use Rattle.key_pages.proofs.Sizes.{page_fits}
+use Rattle.std.proofs.Common.{◌+◌, ◌^◌, ◌<◌, ◌≤◌, length, ap, refl, subst, arith}
+use Rattle.std.specs.List.{AllByRecursion}
+use Rattle.page_format.specs.Writes.{Wrote}
+use Rattle.key_pages.specs.Meaning.{FirstOutside}
+use Rattle.key_pages.specs.Runs.{page, most_bytes}
+use Rattle.key_pages.specs.Claims.{key_outside}
 use Rattle.key_pages.proofs.pages.write_key_page.Goals as goal
 
-pub returns-in_err-most : goal.returns-in_err-most
-returns-in_err-most c =
-    let p = err_from_is_err_and c.from_residual.result c.from_residual.ensures.1 in
-    let h = c.in_err-most.ensures.most in
-    rw (p.1, p.2) (record { written = (above_limit h.0 h.1, refl); bound = tt; cuts = (rules_cut, only_cut); fits = page_fits; reads_back = page_reads_back })
+pub returns-in-Some-clause-written : goal.returns-in-Some-clause-written
+returns-in-Some-clause-written c =
+    let (limits, is) = c.in_ok-width.ensures.limited in
+    let ks = c.args.keys.now in
+    let room : 1 + most_bytes c.args.width (length ks) ≤ length c.args.out.now = omega (arith, ap (λ w. most_bytes w (length ks)) is) in
+    let outside = subst (λ w. FirstOutside ks (2 ^ w) c.in-Some.place) is c.in-Some.ensures.first in
+    rw c.new-in-Some.ensures (key_outside limits room c.in-Some.place outside (refl, refl, refl), refl)
 
-pub returns-then-out-most : goal.returns-then-out-most
-returns-then-out-most c =
-    let h = c.in_ok-most.ensures.most in
-    record
-    { written = (short_buffer h.0 (omega (arith, h.1, c.if-out-most.true)) (refl, refl, refl), refl); bound = tt; cuts = (rules_cut, only_cut); fits = page_fits; reads_back = page_reads_back }
-
-pub returns-in-Some : goal.returns-in-Some
-returns-in-Some c =
-    let h = c.in_ok-most.ensures.most in
-    record {
-      written = (key_outside h.0 (omega (arith, h.1, c.if-out-most.false)) c.in-Some.place c.in-Some.ensures.first (refl, refl, refl), refl);
-      bound = tt;
-      cuts = (rules_cut, only_cut);
-      fits = page_fits;
-      reads_back = page_reads_back;
-    }
-
-pub returns : goal.returns
-returns c =
-    let h = c.in_ok-most.ensures.most in
-    record {
-      written = (record { limited = h.0; room_is = omega (arith, h.1, c.if-out-most.false); inside = c.in_default.ensures.first }, c.write_runs.ensures.wrote);
-      bound = omega (arith, c.write_runs.ensures.wrote.end_is, page_fits c.args.width c.args.keys.now);
-      cuts = (rules_cut, only_cut);
-      fits = page_fits;
-      reads_back = page_reads_back;
-    }
+pub returns-clause-written : goal.returns-clause-written
+returns-clause-written c =
+    let (limits, is) = c.in_ok-width.ensures.limited in
+    let ks = c.args.keys.now in (
+      record {
+        limited = limits;
+        room_is = omega (arith, ap (λ w. most_bytes w (length ks)) is);
+        inside = subst (λ w. AllByRecursion (λ k. k < 2 ^ w) ks) is c.in_default.ensures.first;
+      },
+      subst (λ w. Wrote (page w ks) 0 c.args.out.now c.write_runs.result c.write_runs.new.out) is c.write_runs.ensures.wrote,
+    )

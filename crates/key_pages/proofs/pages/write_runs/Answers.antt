@@ -1,52 +1,36 @@
-use Rattle.std.proofs.Common.{◌≡◌, ◌^◌, ◌<◌, length, get_or, take, sym, refl, ap, ◌∙◌, subst, arith}
+use Rattle.std.proofs.Common.{◌≡◌, ℕ, List, length, sym, ap, ◌∙◌, arith, rules}
 use Rattle.std.proofs.lemmas.List.{length-take-le}
-use Rattle.std.proofs.ByRecursion.{All-get_or}
-use Rattle.page_format.proofs.Endian.{drop-later}
+use Rattle.page_format.specs.declared.bit_writer.BitWriter.{BitWriter}
+use Rattle.page_format.specs.Writes.{Wrote}
 use Rattle.key_pages.specs.Runs.{page}
-use Rattle.key_pages.proofs.Carried.{grows_trans}
-use Rattle.key_pages.proofs.Finishing.{put_ready, put_holds, end_ready, end_front}
+use Rattle.key_pages.specs.Held.{Extends, front_of}
+use Rattle.key_pages.proofs.Carried.{extends_both}
+use Rattle.key_pages.proofs.Finishing.{put_ready, put_after, end_ready, page_is}
 use Rattle.key_pages.proofs.pages.write_runs.Goals as goal
 
-pub loop-key-init : goal.loop-key-init
-loop-key-init c = (c.new-encoder.ensures.holds, record { width_is = refl; further = omega arith; back = refl })
-
-pub put-requires : goal.put-requires
-put-requires c =
-    let w : c.loop-key.encoder.width ≡ c.args.width = c.loop-key.invariant.1.width_is ∙ c.new-encoder.ensures.width in
-    record {
-      ready = put_ready c.loop-key.encoder c.loop-key.out c.args.keys.now c.loop-key.key-index c.args.width (length c.args.out.now) c.requires.few c.loop-key.invariant.0
-          w (c.loop-key.auto.out ∙ c.new-encoder.auto.out) c.requires.room c.loop-key-test.true;
-      inside = subst (λ t. get_or c.args.keys.now c.loop-key.key-index 0 < 2 ^ t) (sym w)
-          (All-get_or (λ k. k < 2 ^ c.args.width) c.args.keys.now c.loop-key.key-index 0 c.loop-key-test.true c.requires.inside);
-    }
+pub put-requires-clause-ready : goal.put-requires-clause-ready
+put-requires-clause-ready c = put_ready c.loop-key.invariant c.requires.few c.from.ensures c.loop-key-test.true
 
 pub loop-key-preserved : goal.loop-key-preserved
-loop-key-preserved c = (
-  put_holds c.loop-key.encoder c.loop-key.out c.args.keys.now c.loop-key.key-index c.args.width (length c.args.out.now) c.requires.few c.loop-key.invariant.0
-      (c.loop-key.invariant.1.width_is ∙ c.new-encoder.ensures.width) (c.loop-key.auto.out ∙ c.new-encoder.auto.out) c.requires.room
-      c.put.new.self c.put.new.out c.loop-key-test.true c.put.ensures.refines,
-  grows_trans c.new-encoder.result c.loop-key.encoder c.put.new.self c.new-encoder.new.out c.loop-key.out c.put.new.out c.loop-key.invariant.1 c.put.ensures.grows,
-)
+loop-key-preserved c = put_after c.loop-key.invariant c.requires.few c.from.ensures c.loop-key-test.true c.put.ensures.refines c.put.ensures.grows
 
 pub finish-requires : goal.finish-requires
-finish-requires c =
-    end_ready c.loop-key.encoder c.loop-key.out c.args.keys.now c.loop-key.key-index c.args.width (length c.args.out.now) c.requires.few c.loop-key.invariant.0
-    (c.loop-key.invariant.1.width_is ∙ c.new-encoder.ensures.width) (c.loop-key.auto.out ∙ c.new-encoder.auto.out) c.requires.room c.loop-key-test.false
+finish-requires c = end_ready c.loop-key.invariant c.requires.few c.loop-key-test.false
+
+wrote_page : {w w' : BitWriter} {bs : List ℕ} → w.at ≡ 0 → Extends w w' → front_of w' ≡ bs → Wrote bs 0 w.bytes.now w'.at w'.bytes.now
+wrote_page {w} {w'} z x is = record {
+  end_is = omega (arith, length-take-le w'.at w'.bytes.now w'.within, ap length is);
+  fits = omega (arith, x.long, w'.within);
+  front = is;
+  back = x.back;
+}
 
 pub returns : goal.returns
 returns c =
-    let long : length c.loop-key.out ≡ length c.args.out.now = c.loop-key.auto.out ∙ c.new-encoder.auto.out in
-    let end = c.finish.ensures.ended in
-    let front : take c.finish.result c.finish.new.out ≡ page c.args.width c.args.keys.now =
-    end_front c.loop-key.encoder c.loop-key.out c.args.keys.now c.loop-key.key-index c.args.width (length c.args.out.now) c.requires.few c.loop-key.invariant.0
-    (c.loop-key.invariant.1.width_is ∙ c.new-encoder.ensures.width) long c.requires.room c.finish.new.out c.finish.result c.loop-key-test.false end in
-    record {
-      wrote = record {
-        end_is = sym (length-take-le c.finish.result c.finish.new.out end.within) ∙ ap length front ∙ omega arith;
-        fits = omega (arith, end.within, c.finish.auto.out, long);
-        front = front;
-        back = end.back
-            ∙ drop-later c.loop-key.out c.new-encoder.new.out c.loop-key.encoder.at c.finish.result end.further c.loop-key.invariant.1.back
-            ∙ drop-later c.new-encoder.new.out c.args.out.now c.new-encoder.result.at c.finish.result (omega (arith, end.further, c.loop-key.invariant.1.further)) c.new-encoder.ensures.back;
-      };
-    }
+    let a = c.loop-key.invariant in
+    let x = extends_both (extends_both c.new-encoder.ensures.extends a.extends) c.finish.ensures.ended.extends in
+    let is = page_is a c.requires.few c.loop-key-test.false c.finish.ensures.ended in
+    let w = wrote_page c.new-writer.ensures.front x is in
+    let w' : Wrote (page c.args.width.bits c.args.keys.now) 0 c.args.out.now c.position.result c.finish.new.out.bytes.now = rw (c.position.ensures, ← c.new-writer.ensures.bytes) w in
+    let name = sym (x.same_buffer ∙ c.new-writer.ensures.same_buffer) in
+    search (rules, name, w')

@@ -1,29 +1,42 @@
-use Rattle.std.proofs.Common.{sym, refl, arith}
+use Rattle.std.proofs.Common.{take, length, refl, sym, ap, ◌∙◌, arith}
+use Rattle.std.proofs.lemmas.List.{take_min, length-take}
 use Rattle.page_format.specs.Bits.{sevens}
 use Rattle.page_format.proofs.Varints.{continued_le, continued_more, continued_stop, seven_more, read_long, read_cut, read_whole, read_large}
 use Rattle.page_format.proofs.fields.read_varint.Goals as goal
 
-pub loop-len-init : goal.loop-len-init
+pub loop-i-init : goal.loop-i-init
 unfolding sevens
-loop-len-init c = (omega arith, omega arith, omega arith, refl, omega arith)
-
-pub returns-then-len-bytes : goal.returns-then-len-bytes
-returns-then-len-bytes c = sym (read_cut c.args.bytes.now (omega arith) (omega (arith, continued_le c.args.bytes.now)))
+loop-i-init c = record { front = ap (λ n. take n c.args.bytes.now) c.min.ensures ∙ take_min 5 c.args.bytes.now; goes_on = omega arith; value = refl; small = omega arith }
 
 pub returns-then-value : goal.returns-then-value
 returns-then-value c =
-    let t = seven_more c.args.bytes.now c.loop-len.value c.loop-len.len c.loop-len-test.true c.if-len-bytes.false c.loop-len.invariant.3 c.loop-len.invariant.4 in
-    sym (read_whole c.args.bytes.now c.loop-len.len _ (continued_stop c.args.bytes.now c.loop-len.len c.if-len-bytes.false c.loop-len.invariant.2 c.if-byte-lt128.true) c.loop-len-test.true c.if-len-bytes.false t.0 c.if-value.true)
+    let bs = c.args.bytes.now in
+    let i = c.loop-i.i in
+    let v = c.loop-i.invariant in
+    let s = seven_more bs _ c.loop-i.value i c.from.result v.front c.loop-i-test.true c.from.ensures v.value v.small in
+    sym (read_whole bs i _ (continued_stop bs i s.within v.goes_on (omega (arith, s.byte_is, c.if-byte-lt128.true))) s.few s.within s.value c.if-value.true)
 
 pub returns-else-value : goal.returns-else-value
 returns-else-value c =
-    let t = seven_more c.args.bytes.now c.loop-len.value c.loop-len.len c.loop-len-test.true c.if-len-bytes.false c.loop-len.invariant.3 c.loop-len.invariant.4 in
-    sym (read_large c.args.bytes.now c.loop-len.len _ (continued_stop c.args.bytes.now c.loop-len.len c.if-len-bytes.false c.loop-len.invariant.2 c.if-byte-lt128.true) c.loop-len-test.true c.if-len-bytes.false t.0 c.if-value.false)
+    let bs = c.args.bytes.now in
+    let i = c.loop-i.i in
+    let v = c.loop-i.invariant in
+    let s = seven_more bs _ c.loop-i.value i c.from.result v.front c.loop-i-test.true c.from.ensures v.value v.small in
+    sym (read_large bs i _ (continued_stop bs i s.within v.goes_on (omega (arith, s.byte_is, c.if-byte-lt128.true))) s.few s.within s.value c.if-value.false)
 
-pub loop-len-preserved : goal.loop-len-preserved
-loop-len-preserved c =
-    let t = seven_more c.args.bytes.now c.loop-len.value c.loop-len.len c.loop-len-test.true c.if-len-bytes.false c.loop-len.invariant.3 c.loop-len.invariant.4 in
-    (omega arith, omega arith, continued_more c.args.bytes.now c.loop-len.len c.if-len-bytes.false c.loop-len.invariant.2 c.if-byte-lt128.false, t.0, t.1)
+pub loop-i-preserved : goal.loop-i-preserved
+loop-i-preserved c =
+    let bs = c.args.bytes.now in
+    let v = c.loop-i.invariant in
+    let s = seven_more bs _ c.loop-i.value c.loop-i.i c.from.result v.front c.loop-i-test.true c.from.ensures v.value v.small in
+    record { front = v.front; goes_on = continued_more bs c.loop-i.i s.within v.goes_on (omega (arith, s.byte_is, c.if-byte-lt128.false)); value = s.value; small = s.small }
 
-pub returns : goal.returns
-returns c = sym (read_long c.args.bytes.now (omega arith))
+pub returns-then-bytes-lt-MAX_VARINT_BYTES : goal.returns-then-bytes-lt-MAX_VARINT_BYTES
+returns-then-bytes-lt-MAX_VARINT_BYTES c =
+    let bs = c.args.bytes.now in
+    sym (read_cut bs (omega (arith, c.loop-i.invariant.goes_on, ap length c.loop-i.invariant.front, length-take 5 bs)) (omega (arith, continued_le bs)))
+
+pub returns-else-bytes-lt-MAX_VARINT_BYTES : goal.returns-else-bytes-lt-MAX_VARINT_BYTES
+returns-else-bytes-lt-MAX_VARINT_BYTES c =
+    let bs = c.args.bytes.now in
+    sym (read_long bs (omega (arith, c.loop-i.invariant.goes_on, ap length c.loop-i.invariant.front, length-take 5 bs)))

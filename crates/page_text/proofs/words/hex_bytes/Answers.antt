@@ -1,40 +1,42 @@
-use Rattle.std.proofs.Common.{◌++◌, vec_items, sym, ap, ◌∙◌, subst, rules}
-use Rattle.std.proofs.lemmas.List.{append-nil, take_rest}
-use Rattle.page_text.specs.Pages.{hex, Bytes}
-use Rattle.page_text.proofs.Hexes.{hex_turn, bytes_push, hex_left, no_pair, no_lone}
-use Rattle.page_text.proofs.Splits.{empty_from_test, some_from_test}
+use Rattle.std.proofs.Common.{◌≡◌, ◌+◌, ◌*◌, ◌/◌, ◌<◌, [], get_or, length, vec_items, sym, ap, ◌∙◌, rules, arith}
+use Rattle.std.proofs.ByRecursion.{All-get_or}
+use borrow.Author.Tests.{false-eqb}
+use Rattle.page_text.specs.Pages.{hex}
+use Rattle.page_text.proofs.Hexes.{length-hex, get_or_hex, get_or_first_chunks, hex_pair_more, BytesPush}
 use Rattle.page_text.proofs.words.hex_bytes.Goals as goal
+use Rattle.page_text.proofs.words.hex_bytes.Goals.{In-loop-high}
 
-pub loop-rest-init : goal.loop-rest-init
+pub returns-then-not-is_empty : goal.returns-then-not-is_empty
+returns-then-not-is_empty c = record {
+  reads = λ bs small e. omega (arith, ap length e, length-hex bs, c.as_chunks.ensures.back_len, false-eqb, c.if-not-is_empty.ensures);
+}
+
+pub loop-high-init : goal.loop-high-init
 unfolding hex
-loop-rest-init c =
-    let none = c.new-bytes.ensures.items in
-    (sym (ap (λ vs. hex vs ++ c.args.word.now) none), subst Bytes (sym none) tt)
+loop-high-init c = search rules
 
-pub returns-in_default-hex_pair : goal.returns-in_default-hex_pair
-returns-in_default-hex_pair c = record {
+-- the digits that this turn reads
+digits : (c : In-loop-high) → let pair = get_or c.as_chunks.result.0.now c.loop-high.high-index [] in
+    (get_or pair 0 0 ≡ get_or c.args.word.now (2 * c.loop-high.high-index) 0) × (get_or pair 1 0 ≡ get_or c.args.word.now (2 * c.loop-high.high-index + 1) 0)
+digits c = rw c.as_chunks.ensures.front (get_or_first_chunks c.args.word.now (length c.args.word.now / 2) c.loop-high.high-index (omega (arith, c.as_chunks.ensures.front_len)))
+
+pub returns-in_default : goal.returns-in_default
+returns-in_default c = record {
   reads = λ bs small e.
-      let left = hex_left (vec_items c.loop-rest.bytes) bs c.loop-rest.rest.now small (sym c.loop-rest.invariant.0 ∙ e) in
-      no_pair left.0 c.loop-rest.rest.now left.1 left.2 (search rules) c.in_default-hex_pair.ensures.reads;
+      let i = c.loop-high.high-index in
+      let inside : i < length bs = omega (arith, ap length e, length-hex bs, c.as_chunks.ensures.front_len) in
+      let read = digits (goal.at.returns-in_default c).In-loop-high in
+      let written = get_or_hex bs i inside in
+      c.in_default.ensures.reads (get_or bs i 0) (All-get_or (λ b. b < 256) bs i 0 inside small)
+      (read.0 ∙ ap (λ t. get_or t (2 * i) 0) e ∙ written.0) (read.1 ∙ ap (λ t. get_or t (2 * i + 1) 0) e ∙ written.1);
 }
 
-pub loop-rest-preserved : goal.loop-rest-preserved
-loop-rest-preserved c =
+pub loop-high-preserved : goal.loop-high-preserved
+loop-high-preserved c =
     let pair = c.in-Some.ensures.reads in
-    let items = c.in_ok-push.ensures.items in (
-      hex_turn c.args.word.now (vec_items c.loop-rest.bytes) (vec_items c.push.new.self) c.loop-rest.rest.now _ c.in-Some.byte
-          (search rules) c.loop-rest.invariant.0 items pair.1 pair.2 (take_rest c.loop-rest.rest.now 2),
-      bytes_push (vec_items c.loop-rest.bytes) (vec_items c.push.new.self) c.in-Some.byte items c.loop-rest.invariant.1 pair.0,
+    let items = c.in_ok-push.ensures.items in
+    let read = digits (goal.at.loop-high-preserved c).In-loop-high in (
+      hex_pair_more c.args.word.now (vec_items c.loop-high.bytes) (vec_items c.push.new.self) c.loop-high.high-index c.in-Some.byte
+          (omega (arith, c.as_chunks.ensures.front_len)) items c.loop-high.invariant.0 (sym read.0 ∙ pair.1) (sym read.1 ∙ pair.2),
+      BytesPush (vec_items c.loop-high.bytes) (vec_items c.push.new.self) c.in-Some.byte items c.loop-high.invariant.1 pair.0,
     )
-
-pub returns-then-is_empty : goal.returns-then-is_empty
-returns-then-is_empty c =
-    let nil = empty_from_test c.loop-rest.rest.now c.if-is_empty.ensures in
-    record { reads = (c.loop-rest.invariant.1, c.loop-rest.invariant.0 ∙ ap (λ t. hex (vec_items c.loop-rest.bytes) ++ t) nil ∙ append-nil (hex (vec_items c.loop-rest.bytes))) }
-
-pub returns-else-is_empty : goal.returns-else-is_empty
-returns-else-is_empty c = record {
-  reads = λ bs small e.
-      let left = hex_left (vec_items c.loop-rest.bytes) bs c.loop-rest.rest.now small (sym c.loop-rest.invariant.0 ∙ e) in
-      no_lone left.0 c.loop-rest.rest.now left.2 (search rules) (some_from_test c.loop-rest.rest.now c.if-is_empty.ensures);
-}

@@ -1,18 +1,20 @@
-use Rattle.std.proofs.Common.{sym, subst}
-use Rattle.arrays.specs.Offsets.{numbers, offset_rules, offset_values}
-use Rattle.arrays.specs.Opening.{Fit}
-use Rattle.arrays.specs.Values.{ValueAt}
+use Rattle.std.proofs.Common.{arith, sym}
+use Rattle.arrays.proofs.Values.{no_value, one_value}
 use Rattle.arrays.proofs.binary.BinaryArrayArrayAccessor.value.Goals as goal
 
-pub value_at-requires : goal.value_at-requires
-value_at-requires c =
-    let s = c.args.self.now in
-    record {
-      fit = subst (λ n. Fit (offset_rules (numbers s.offsets) n)) (sym c.deref.ensures.len) (record { limits = s.limits; whole = s.whole; each = s.each });
-    }
+pub returns-in_err-from : goal.returns-in_err-from
+returns-in_err-from g c =
+    let none = simp c.deref.ensures.value at c.in_err-from.ensures.place in
+    rw c.from_residual.ensures (record { value = no_value _ _ _ _ _ c.args.self.now.fit none (omega arith) })
+
+pub returns-in_err-to : goal.returns-in_err-to
+returns-in_err-to g c =
+    let none = simp c.deref-2.ensures.value at c.in_err-to.ensures.place in
+    rw c.from_residual-in_err-to.ensures (record { value = no_value _ _ _ _ _ c.args.self.now.fit none (omega arith) })
 
 pub returns : goal.returns
-returns c =
-    record {
-      value = subst (λ bytes. ValueAt (offset_values (numbers c.args.self.now.offsets) bytes) c.args.i c.value_at.result) c.deref.ensures.value c.value_at.ensures.value;
-    }
+returns g c =
+    let from = simp c.deref.ensures.value at c.in_ok-from.ensures.place in
+    let to = simp c.deref-2.ensures.value at c.in_ok-to.ensures.place in
+    let one = one_value _ c.args.self.now.bytes.items _ _ _ from to in
+    rw c.deref-3.ensures.value (record { value = (one.0, sym one.1) })

@@ -1,40 +1,51 @@
-use Rattle.std.proofs.Common.{◌<◌, ◌≤◌, length, sym, refl, subst, arith}
-use Rattle.std.proofs.lemmas.List.{length_push}
-use Rattle.key_pages.specs.Held.{Holds, Room}
-use Rattle.key_pages.specs.declared.encoder.State.TheVariants.{Gathering}
-use Rattle.key_pages.proofs.Holding.{joining_part, joining_full}
-use Rattle.key_pages.proofs.Carried.{with_key, keyed, takes_key, rests, resting}
+use Rattle.std.proofs.Common.{◌≡◌, ℕ, ◌+◌, ◌^◌, ◌<◌, ◌++◌, ◌∷◌, [], length, set, sym, refl, ◌∙◌, subst, arith, length-set}
+use Rattle.std.proofs.lemmas.List.{length_push, take_more_set}
+use Rattle.std.proofs.ByRecursion.{All-push}
+use Rattle.std.proofs.lemmas.Bool.Decides.{nat_tests}
+use Rattle.page_format.specs.declared.bit_writer.BitWriter.{BitWriter}
+use Rattle.key_pages.specs.Machine.{Writer}
+use Rattle.key_pages.specs.Held.{Holds, Room, Stands, Fills, Joins, filling, joining}
+use Rattle.key_pages.specs.declared.encoder.RleEncoder.{RleEncoder}
 use Rattle.key_pages.proofs.encoder.RleEncoder.join_group.Goals as goal
 
+with_key : Writer → Writer
+with_key m = record m { part = m.part ++ m.last ∷ [] }
+
+takes_key : {m : Writer} {e : RleEncoder} {out : BitWriter} → Stands m e out → length m.part < 8
+    → Stands (with_key m) (record e { group = set e.group e.waiting e.last; waiting = e.waiting + 1 }) out
+unfolding with_key
+takes_key {m} {e} h s = record {
+  page = h.page;
+  keys = record {
+    eight = length-set e.group e.waiting e.last ∙ h.eight;
+    waits = take_more_set e.group e.waiting e.last (omega (arith, h.eight, h.waiting_is)) ∙ rw (h.waits, h.last_is) refl;
+    waiting_is = omega (arith, length_push m.part m.last, h.waiting_is);
+  };
+  last_is = h.last_is;
+  inside = (h.inside.0, All-push (λ k. k < 2 ^ e.width.bits) m.part m.last h.inside.1 h.inside.0);
+}
+
+fills : {m : Writer} {e : RleEncoder} {out : BitWriter} {repeats : ℕ} → Stands m e out → Joins repeats m → e.waiting + 1 ≡ 8 → Fills repeats (with_key m)
+unfolding with_key
+fills {m} h a is = record { full_is = (omega (arith, length_push m.part m.last, h.waiting_is), a.groups_few); count_is = a.count_is }
+
+joins : {m : Writer} {e : RleEncoder} {out : BitWriter} → Stands m e out → e.waiting + 1 ≡ 8 → joining m ≡ filling (with_key m)
+unfolding with_key
+joins h is = grind (arith, nat_tests, h.waiting_is)
+
 pub fill_group-requires : goal.fill_group-requires
+unfolding with_key
 fill_group-requires c =
-    let m = c.requires.model in
-    let h = c.requires.held in
-    let a = c.requires.apt in
-    let long : 7 ≤ length m.part = omega (arith, h.waiting_is, c.if-self-eq8.true) in
+    let r = c.requires in
     record {
-      model = with_key m;
-      held = takes_key m c.args.self.now c.args.out.now h a.part_short;
-      apt = record { full_is = (omega (arith, length_push m.part m.last, a.part_short), a.groups_few); count_is = a.count_is };
-      room = subst (λ t. Room c.args.self.now.width t (length c.args.out.now)) (joining_full m long) c.requires.room;
+      model = with_key r.model;
+      held = takes_key r.held r.apt.part_short;
+      apt = fills r.held r.apt c.if-self-eq8.true;
+      room = subst (λ t. Room c.args.self.now.width.bits t (length c.args.out.now.bytes.now)) (joins r.held c.if-self-eq8.true) r.room;
     }
 
-pub returns-then-self-eq8 : goal.returns-then-self-eq8
-returns-then-self-eq8 c = record {
-  refines = λ m h a.
-      let long : 7 ≤ length m.part = omega (arith, h.waiting_is, c.if-self-eq8.true) in
-      subst (λ t. Holds t c.fill_group.new.self c.fill_group.new.out) (sym (joining_full m long))
-      (c.fill_group.ensures.refines (with_key m) (takes_key m c.args.self.now c.args.out.now h a.part_short)
-      (record { full_is = (omega (arith, length_push m.part m.last, a.part_short), a.groups_few); count_is = a.count_is }));
-  grows = record { width_is = c.fill_group.ensures.grows.width_is; further = c.fill_group.ensures.grows.further; back = c.fill_group.ensures.grows.back };
-}
-
-pub returns-else-self-eq8 : goal.returns-else-self-eq8
-returns-else-self-eq8 c = record {
-  refines = λ m h a.
-      let short : length m.part < 7 = omega (arith, h.waiting_is, c.if-self-eq8.false, a.part_short) in
-      subst (λ t. Holds t (resting (keyed c.args.self.now) (Gathering c.args.repeats)) c.args.out.now) (sym (joining_part m short))
-      (rests (with_key m) (keyed c.args.self.now) (Gathering c.args.repeats) c.args.out.now (takes_key m c.args.self.now c.args.out.now h a.part_short)
-      (sym a.count_is, omega (arith, a.count_is, a.count_low)));
-  grows = record { width_is = refl; further = omega arith; back = refl };
-}
+pub returns-then-self-eq8-clause-refines : goal.returns-then-self-eq8-clause-refines
+unfolding with_key
+returns-then-self-eq8-clause-refines c m h a =
+    subst (λ t. Holds t c.fill_group.new.self c.fill_group.new.out) (sym (joins h c.if-self-eq8.true))
+    (c.fill_group.ensures.refines (with_key m) (takes_key h a.part_short) (fills h a c.if-self-eq8.true))
