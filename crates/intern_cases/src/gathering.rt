@@ -100,9 +100,10 @@ fn gathered<A: ArrayAccessor>(
     array: &A,
     indices: &[usize],
 ) -> Result<String, AllocError> {
-    let text = answer_text(alloc, interned(alloc, Fnv1a::new(), array, indices))?;
-    let seeded = answer_text(alloc, interned(alloc, Fnv1a::with_seed(7), array, indices))?;
-    let zero = answer_text(alloc, interned(alloc, ZeroHash, array, indices))?;
+    let gathering = Gathering { array, indices };
+    let text = answer_text(alloc, gathering.interned(alloc, Fnv1a::new()))?;
+    let seeded = answer_text(alloc, gathering.interned(alloc, Fnv1a::with_seed(7)))?;
+    let zero = answer_text(alloc, gathering.interned(alloc, ZeroHash))?;
     if seeded == text && zero == text {
         Ok(text)
     } else {
@@ -110,41 +111,44 @@ fn gathered<A: ArrayAccessor>(
     }
 }
 
-// The keys of the values that the indices name. An index that names none stands for no bytes.
-fn keys_of<A: ArrayAccessor, H: KeyHash>(
-    alloc: Global,
-    interner: &mut Interner<PlainStorage, H>,
-    array: &A,
-    indices: &[usize],
-) -> Result<Vec<u32>, Failure> {
-    indices
-        .iter()
-        .enumerate()
-        .map(|(place, index)| -> Result<u32, Failure> {
-            let key = interner.intern(array.value(*index).unwrap_or(b""), place)?;
-            Ok(key as u32)
-        })
-        .try_collect(alloc)
+// The values of an array that indices name.
+#[derive(Clone, Copy)]
+struct Gathering<'a, A: ArrayAccessor> {
+    array: &'a A,
+    indices: &'a [usize],
 }
 
-// The page of the keys, and the page of the entries.
-fn interned<A: ArrayAccessor, H: KeyHash + Drop>(
-    alloc: Global,
-    hash: H,
-    array: &A,
-    indices: &[usize],
-) -> Result<String, Failure> {
-    let memory = vec![in alloc; 0u8; 65536]?;
-    let mut interner = Interner::new(PlainStorage::new(Column::ByteStrings, memory), hash);
-    let keys = keys_of(alloc, &mut interner, array, indices)?;
-    let store = interner.storage();
-    let entries = store.len();
-    let page = page_or_none(alloc, key_width(entries), &keys)?;
-    Ok(format!(in alloc;
-        "page :{} dict {entries} :{}",
-        Hex(&page),
-        Hex(store.page())
-    )?)
+impl<A: ArrayAccessor> Gathering<'_, A> {
+    // Their keys. An index that names none stands for no bytes.
+    fn keys<H: KeyHash>(
+        &self,
+        alloc: Global,
+        interner: &mut Interner<PlainStorage, H>,
+    ) -> Result<Vec<u32>, Failure> {
+        self.indices
+            .iter()
+            .enumerate()
+            .map(|(place, index)| -> Result<u32, Failure> {
+                let key = interner.intern(self.array.value(*index).unwrap_or(b""), place)?;
+                Ok(key as u32)
+            })
+            .try_collect(alloc)
+    }
+
+    // The page of their keys, and the page of the entries.
+    fn interned<H: KeyHash + Drop>(&self, alloc: Global, hash: H) -> Result<String, Failure> {
+        let memory = vec![in alloc; 0u8; 65536]?;
+        let mut interner = Interner::new(PlainStorage::new(Column::ByteStrings, memory), hash);
+        let keys = self.keys(alloc, &mut interner)?;
+        let store = interner.storage();
+        let entries = store.len();
+        let page = page_or_none(alloc, key_width(entries), &keys)?;
+        Ok(format!(in alloc;
+            "page :{} dict {entries} :{}",
+            Hex(&page),
+            Hex(store.page())
+        )?)
+    }
 }
 
 // The page of the keys, and no bytes where our writer rejects them.

@@ -15,7 +15,7 @@ pub(crate) fn put_repeat(out: &mut BitWriter<'_>, width: KeyWidth, count: usize,
     ensures wrote { Appends (run_bytes width.bits (repeat count key)) out.old out.new }
 {
     out.write_varint(2 * count as u64).unwrap();
-    out.write_le(width.bits().div_ceil(8), key).unwrap();
+    out.write_le(width.bytes(), key).unwrap();
 }
 
 #[tactic(auto, using(page_format::proofs::Writing::appends_done, crate::proofs::Writes::low_same))]

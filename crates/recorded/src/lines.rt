@@ -1,7 +1,7 @@
 //! Lines of commands and answers.
-ghost use Rattle.std.specs.Prelude.{◌≡◌, List, IfOk, count_by, min};
+ghost use Rattle.std.specs.Prelude.{List, map, Ok, IfOk, string_bytes};
 ghost use Rattle.std.specs.Iterator.{Drains, IsFinite};
-ghost use Rattle.recorded.specs.Lines.{is_answer};
+ghost use Rattle.recorded.specs.Lines.{Case, Replayed};
 
 use crate::tally::Tally;
 use std::alloc::Global;
@@ -19,7 +19,7 @@ where
     requires ends { IsFinite (L.remaining lines) }
     requires answers { A.IsAlwaysCallable answer }
     requires tells { D.IsAlwaysCallable differs }
-    ensures counted { IfOk result (λ t. (read : List _) × Drains L.next_gives lines read × (t.all ≡ min (count_by is_answer read) u32.MAX)) }
+    ensures replayed { IfOk result (λ t. (read : List _) × (cases : List Case) × Drains L.next_gives lines (map (λ line. Ok line) read) × Replayed A.Fn answer D.Fn differs (map (λ line. string_bytes line) read) cases t) }
 {
     let mut command = String::new(alloc);
     let mut tally = Tally::new();

@@ -8,5 +8,5 @@ pub unwrap-requires-2 : goal.unwrap-requires-2
 unfolding run_bytes
 unwrap-requires-2 c =
     let first = appends_done _ _ _ _ _ _ c.write_varint.ensures.written c.unwrap.ensures in
-    appends_some _ _ _ _ _ c.write_le.ensures.written (omega (arith, c.div_ceil.ensures))
-    (omega (arith, c.requires.room, first.wrote.end_is, appends_length first, c.div_ceil.ensures, length-append {A = ℕ}, length-le_bytes))
+    appends_some _ _ _ _ _ c.write_le.ensures.written (omega (arith, c.bytes.ensures))
+    (omega (arith, c.requires.room, first.wrote.end_is, appends_length first, c.bytes.ensures, length-append {A = ℕ}, length-le_bytes))
