@@ -9,7 +9,7 @@ use page_format::Column;
 use page_report::{Failure, own_page};
 use page_text::Hex;
 use std::alloc::{AllocError, Global};
-use std::iter;
+use std::str::SplitWhitespace;
 
 // What the values become: `b32`, `b64`, or a dictionary on these, `dict`, `dict64`, or on an array of one width, `dictfix`.
 #[derive(Clone, Copy)]
@@ -38,50 +38,55 @@ impl From<&str> for Kind {
 
 pub(crate) fn gather_answer(alloc: Global, command: &str) -> Result<String, Failure> {
     let kind = Kind::from(command.split_whitespace().nth(1).unwrap_or(""));
-    let values: Vec<Vec<u8>> = part(command, 0)
-        .skip(2)
-        .map(|word| bytes(alloc, word))
-        .try_collect(alloc)?;
+    let mut values = part(command, 0);
+    let _gather = values.next();
+    let _kind = values.next();
     let indices = numbers(alloc, part(command, 1))?;
     let text = match kind {
-        Kind::Binary32 => gathered(alloc, &binary::<i32>(alloc, &values)?, &indices)?,
-        Kind::Binary64 => gathered(alloc, &binary::<i64>(alloc, &values)?, &indices)?,
-        Kind::Dictionary32 => in_dictionary(alloc, binary::<i32>(alloc, &values)?, &indices)?,
-        Kind::Dictionary64 => in_dictionary(alloc, binary::<i64>(alloc, &values)?, &indices)?,
-        Kind::FixedDictionary => in_dictionary(alloc, fixed(alloc, &values)?, &indices)?,
+        Kind::Binary32 => gathered(alloc, &binary::<i32>(alloc, values)?, &indices)?,
+        Kind::Binary64 => gathered(alloc, &binary::<i64>(alloc, values)?, &indices)?,
+        Kind::Dictionary32 => in_dictionary(alloc, binary::<i32>(alloc, values)?, &indices)?,
+        Kind::Dictionary64 => in_dictionary(alloc, binary::<i64>(alloc, values)?, &indices)?,
+        Kind::FixedDictionary => in_dictionary(alloc, fixed(alloc, values)?, &indices)?,
     };
     Ok(text)
 }
 
-// Where each value begins, one behind another, and where the last one ends. A place that the type lacks counts as 0.
-fn offsets<O>(alloc: Global, values: &[Vec<u8>]) -> Result<Vec<O>, AllocError>
+// Where each value begins, one behind another, and where the last one ends; and the values. A place that the type lacks counts as 0.
+fn laid_out<O>(alloc: Global, values: SplitWhitespace<'_>) -> Result<(Vec<O>, Vec<u8>), AllocError>
 where
     O: TryFrom<usize> + Default + Drop,
     O::Error: Drop,
 {
-    let ends = values.iter().scan(0usize, |end, value| {
-        *end = end.saturating_add(value.len());
-        Some(*end)
-    });
-    iter::once(0)
-        .chain(ends)
-        .map(|end| O::try_from(end).unwrap_or_default())
-        .collect(alloc)
+    let mut data = Vec::new(alloc);
+    let mut offsets = Vec::new(alloc);
+    offsets.push(O::default())?;
+    for word in values {
+        data.extend_from_slice(&bytes(alloc, word)?)?;
+        offsets.push(O::try_from(data.len()).unwrap_or_default())?;
+    }
+    Ok((offsets, data))
 }
 
-fn binary<O>(alloc: Global, values: &[Vec<u8>]) -> Result<BinaryArray<O>, Failure>
+fn binary<O>(alloc: Global, values: SplitWhitespace<'_>) -> Result<BinaryArray<O>, Failure>
 where
     O: ArrowNativeType + TryFrom<usize> + Default,
     O::Error: Drop,
 {
-    let offsets = offsets(alloc, values)?;
-    Ok(BinaryArray::open(offsets, values.concat(alloc)?)?)
+    let (offsets, data) = laid_out(alloc, values)?;
+    Ok(BinaryArray::open(offsets, data)?)
 }
 
 // All at the width of the last one.
-fn fixed(alloc: Global, values: &[Vec<u8>]) -> Result<FixedSizeBinaryArray, Failure> {
-    let width = values.last().map_or(0, |value| value.len());
-    Ok(FixedSizeBinaryArray::open(width, values.concat(alloc)?)?)
+fn fixed(alloc: Global, values: SplitWhitespace<'_>) -> Result<FixedSizeBinaryArray, Failure> {
+    let mut data = Vec::new(alloc);
+    let mut width = 0;
+    for word in values {
+        let value = bytes(alloc, word)?;
+        width = value.len();
+        data.extend_from_slice(&value)?;
+    }
+    Ok(FixedSizeBinaryArray::open(width, data)?)
 }
 
 // The answer over a dictionary with a key to each value.

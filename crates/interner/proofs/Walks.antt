@@ -104,7 +104,7 @@ sound_none hash es n e none =
     }
 
 -- the entries and the slots after a push that found a slot
-pub sound_free : {hash : Bytes → ℕ} {es : List Bytes} {slots : List (Option ℕ)} {v : Bytes} {i : ℕ} (st : Store) (place k : ℕ) (es' : List Bytes) → Sound hash es slots → Stops es slots (hash v) v i → answered k ≡ pushed st es v place → es' ≡ es ++ v ∷ [] → Sound hash es' (set slots i (Some k))
-sound_free {hash} {es} {slots} {v} {i} st place k es' s w answer grown =
+pub sound_free : {hash : Bytes → ℕ} {es : List Bytes} {slots : List (Option ℕ)} {v : Bytes} {i : ℕ} {slot : Option ℕ} (st : Store) (place k : ℕ) (es' : List Bytes) → Sound hash es slots → Stops es slots (hash v) v i → answered k ≡ pushed st es v place → es' ≡ es ++ v ∷ [] → slot ≡ Some k → Sound hash es' (set slots i slot)
+sound_free {hash} {es} {slots} {v} {i} st place k es' s w answer grown names =
     let q : k ≡ length es = pushed_answered st es v place k (sym answer) in
-    rw (grown, q) (sound_push s w)
+    rw (names, grown, q) (sound_push s w)

@@ -3,8 +3,6 @@ ghost use Rattle.std.specs.Prelude.{◌≡◌, ℕ};
 ghost use Rattle.page_format.specs.Plain.{Bytes};
 ghost use Rattle.interner.specs.Hashes.{fnv_from, fnv_basis};
 
-use std::marker::Model;
-
 /// A function from byte strings to 64-bit numbers.
 pub trait KeyHash {
     ghost hashed: { Self → Bytes → ℕ };
@@ -17,38 +15,45 @@ const FNV_BASIS: u64 = 0xcbf29ce484222325;
 
 const FNV_PRIME: u64 = 0x100000001b3;
 
-/// FNV-1a at 64 bits, seen as the number that it begins at.
+/// FNV-1a at 64 bits that begins at the caller's seed in place of the published basis.
 #[derive(Clone, Copy)]
-pub struct Fnv1a {
-    basis: u64,
+pub struct SeededFnv1a {
+    pub seed: u64,
 }
 
-impl Model for Fnv1a {
-    ghost Value = { ℕ };
+impl KeyHash for SeededFnv1a {
+    ghost hashed = { λ h v. fnv_from h.seed v };
 
-    ghost view = { λ h. h.basis };
-
-    ghost inverse = { λ n. record { basis = n } };
+    fn hash_one(&self, value: &[u8]) -> u64 {
+        value.iter().fold(
+            self.seed,
+            |hash, byte| (hash ^ u64::from(*byte)).wrapping_mul(FNV_PRIME),
+        )
+    }
 }
+
+/// FNV-1a at 64 bits, as published.
+#[derive(Clone, Copy)]
+pub struct Fnv1a;
 
 impl Fnv1a {
     /// As published.
     pub fn new() -> Fnv1a
-        ensures { result ≡ fnv_basis }
+        ensures { result ≡ record {} }
     {
-        Fnv1a { basis: FNV_BASIS }
+        Fnv1a
     }
 
     /// Begins at the caller's seed in place of the published basis.
-    pub fn with_seed(seed: u64) -> Fnv1a
-        ensures { result ≡ seed }
+    pub fn with_seed(seed: u64) -> SeededFnv1a
+        ensures { result.seed ≡ seed }
     {
-        Fnv1a { basis: seed }
+        SeededFnv1a { seed }
     }
 }
 
 impl Default for Fnv1a {
-    ghost is_default = { λ h. h ≡ fnv_basis };
+    ghost is_default = { λ h. h ≡ record {} };
 
     fn default() -> Fnv1a {
         Fnv1a::new()
@@ -56,13 +61,10 @@ impl Default for Fnv1a {
 }
 
 impl KeyHash for Fnv1a {
-    ghost hashed = { fnv_from };
+    ghost hashed = { λ _ v. fnv_from fnv_basis v };
 
     fn hash_one(&self, value: &[u8]) -> u64 {
-        value.iter().fold(
-            self.basis,
-            |hash, byte| (hash ^ u64::from(*byte)).wrapping_mul(FNV_PRIME),
-        )
+        Fnv1a::with_seed(FNV_BASIS).hash_one(value)
     }
 }
 

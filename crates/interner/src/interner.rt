@@ -5,6 +5,7 @@ ghost use Rattle.interner.specs.Entries.{Holds, in_use};
 ghost use Rattle.interner.specs.Interning.{Step, FoundOrPushed, EveryRun};
 
 use crate::hash::KeyHash;
+use crate::slot::Slot;
 use crate::storage::Storage;
 use page_format::{Fault, TABLE_SLOTS};
 
@@ -14,7 +15,7 @@ pub struct Interner<S: Storage, H: KeyHash> {
     storage: S,
     hash: H,
     // each names an entry, or is empty; no map of std, which would allocate
-    slots: [Option<u16>; TABLE_SLOTS],
+    slots: [Slot; TABLE_SLOTS],
 }
 
 // What a walk along the slots came to: one of three ends, which neither an Option nor a Result names.
@@ -41,7 +42,7 @@ impl<S: Storage, H: KeyHash> Interner<S, H> {
         Interner {
             storage,
             hash,
-            slots: [None; TABLE_SLOTS],
+            slots: [Slot::EMPTY; TABLE_SLOTS],
         }
     }
 
@@ -52,10 +53,9 @@ impl<S: Storage, H: KeyHash> Interner<S, H> {
     {
         let start = self.hash.hash_one(value) as usize % TABLE_SLOTS;
         for at in (start..TABLE_SLOTS).chain(0..start) {
-            let Some(name) = self.slots[at] else {
+            let Some(key) = self.slots[at].key() else {
                 return Probe::Free(at);
             };
-            let key = usize::from(name);
             if self.storage.equals(key, value) {
                 return Probe::Hit(key);
             }
@@ -77,7 +77,7 @@ impl<S: Storage, H: KeyHash> Interner<S, H> {
             Probe::Hit(key) => Ok(key),
             Probe::Free(at) => {
                 let key = self.storage.push(value, place)?;
-                self.slots[at] = Some(key as u16);
+                self.slots[at] = Slot::of(key);
                 Ok(key)
             }
             Probe::Full => self.storage.push(value, place),

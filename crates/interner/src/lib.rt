@@ -4,9 +4,10 @@
 mod hash;
 mod interner;
 mod plain;
+mod slot;
 mod storage;
 
-pub use hash::{Fnv1a, KeyHash, ZeroHash};
+pub use hash::{Fnv1a, KeyHash, SeededFnv1a, ZeroHash};
 pub use interner::Interner;
 pub use plain::PlainStorage;
 pub use storage::Storage;

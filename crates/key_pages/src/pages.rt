@@ -11,7 +11,7 @@ ghost use Rattle.key_pages.specs.Claims.{worked, MostOf, Limited, PageWritten, B
 
 use crate::encoder::RleEncoder;
 use crate::width::KeyWidth;
-use page_format::{BitWriter, Fault, Layer, MAX_PAGE_VALUES, Rejection, num_required_bits};
+use page_format::{BitWriter, Fault, Layer, MAX_PAGE_VALUES, Rejection, ceil, num_required_bits};
 
 /// The least width that holds every key of so many entries.
 pub fn key_width(entries: usize) -> usize
@@ -35,7 +35,7 @@ fn most_bytes(width: KeyWidth, count: usize) -> usize
     requires few { count ≤ page_values }
     ensures most { result ≡ most_bytes width.bits count }
 {
-    count.div_ceil(8) * (1 + width.bits())
+    ceil(count, 8) * (1 + width.bits())
 }
 
 /// The most bytes that the runs of `count` keys take, without the width's byte.

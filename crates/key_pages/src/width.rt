@@ -2,7 +2,7 @@
 ghost use Rattle.std.specs.Prelude.{◌≤◌};
 ghost use Rattle.page_format.specs.Limits.{key_width};
 
-use page_format::MAX_KEY_WIDTH;
+use page_format::{MAX_KEY_WIDTH, ceil};
 
 #[derive(Clone, Copy, PartialEq, Eq, Debug)]
 pub(crate) struct KeyWidth {
@@ -35,7 +35,7 @@ impl KeyWidth {
     pub(crate) fn bytes(self) -> usize
         ensures { result ≡ bytes_for self.bits }
     {
-        self.bits().div_ceil(8)
+        ceil(self.bits(), 8)
     }
 }
 

@@ -1,11 +1,10 @@
 -- Little-endian numbers: lengths, splits, and reading back.
-use Rattle.std.proofs.Common.{◌≡◌, ℕ, zero, suc, ◌+◌, ◌-◌, ◌*◌, ◌/◌, ◌%◌, ◌^◌, ◌<◌, ◌≤◌, List, [], ◌∷◌, ◌++◌, length, get_or, take, drop, replicate, sym, refl, ap, ◌∙◌, subst, inl, inr, mod-eq_of_lt, mul_assoc, mul_comm, length-append, arith, length-take}
+use Rattle.std.proofs.Common.{◌≡◌, ℕ, zero, suc, ◌+◌, ◌-◌, ◌*◌, ◌/◌, ◌%◌, ◌^◌, ◌<◌, ◌≤◌, List, [], ◌∷◌, ◌++◌, length, get_or, take, drop, bit_or, sym, refl, ap, ◌∙◌, subst, inl, inr, mod-eq_of_lt, mul_assoc, mul_comm, length-append, arith, length-take}
 use native.Mathlib.Nat.{div-div-eq-div-mul}
-use mir.Syntax.{w128}
+use Rattle.std.proofs.Math.Seq.{get_or-append_seam}
 use Rattle.std.proofs.lemmas.Bool.{cases_lt}
-use Rattle.std.proofs.lemmas.List.{get_or-take, get_or_past, length-take-le, drop-drop, length-replicate, take_all}
-use Rattle.std.proofs.lemmas.Nat.{mod-pow-add, pow-add, shr-shr, shr_high}
-use Rattle.std.specs.Int.{sum_through, byte_worth, from_le_bytes}
+use Rattle.std.proofs.lemmas.List.{append_assoc, get_or-take, get_or_past, length-take-le, drop-drop}
+use Rattle.std.proofs.lemmas.Nat.{mod-pow-add, pow-add, shr-shr, shr_high, shl_whole, or_shifted}
 use Rattle.page_format.specs.Bits.{le_bytes, le_number}
 
 pub length-le_bytes : (n x : ℕ) → length (le_bytes n x) ≡ n
@@ -54,6 +53,21 @@ take-le zero m x h = refl
 take-le (suc n) zero x h = absurd (omega arith)
 take-le (suc n) (suc m) x h = ap (λ t. x % 256 ∷ t) (take-le n m (x / 256) (omega arith))
 
+-- the last byte of those that are left comes in front of the number that those behind them are
+pub byte_before : (bs rest back : List ℕ) (v b : ℕ) → length bs ≤ 16 → ((i : ℕ) → get_or bs i 0 < 256) → bs ≡ (rest ++ b ∷ []) ++ back
+    → v ≡ le_number back → v < 2 ^ (8 * length back)
+    → (bs ≡ rest ++ (b ∷ back)) × (bit_or (v * 2 ^ 8 % 2 ^ 128) b ≡ le_number (b ∷ back)) × (bit_or (v * 2 ^ 8 % 2 ^ 128) b < 2 ^ (8 * length (b ∷ back)))
+unfolding le_number
+byte_before bs rest back v b few bytes are is small =
+    let all : bs ≡ rest ++ (b ∷ back) = are ∙ append_assoc rest (b ∷ []) back in
+    let at : get_or bs (length rest) 0 ≡ b = ap (λ t. get_or t (length rest) 0) all ∙ get_or-append_seam rest b back 0 in
+    let byte : b < 256 = subst (λ t. t < 256) at (bytes (length rest)) in
+    let l : length bs ≡ length rest + suc (length back) = ap length all ∙ length-append rest (b ∷ back) in
+    let m : v * 2 ^ 8 % 2 ^ 128 ≡ v * 2 ^ 8 = shl_whole v (8 * length back) 8 128 small (omega (arith, few, l)) in
+    let o : bit_or (v * 2 ^ 8 % 2 ^ 128) b ≡ v * 2 ^ 8 + b = rw m (or_shifted v 8 b byte) in
+    let q : 8 * suc (length back) ≡ 8 * length back + 8 = omega arith in
+    (all, omega (arith, o, is), rw (o, q, pow-add 2 (8 * length back) 8) (omega (arith, small, byte)))
+
 pub le_split : (n : ℕ) (bs : List ℕ) → le_number bs ≡ le_number (take n bs) + 2 ^ (8 * n) * le_number (drop n bs)
 unfolding le_number
 le_split zero bs = omega arith
@@ -87,43 +101,3 @@ pub drop-later : (xs ys : List ℕ) (a b : ℕ) → a ≤ b → drop a xs ≡ dr
 drop-later xs ys a b h e =
     let f : a + (b - a) ≡ b = omega arith in
     ap (λ t. drop t xs) (sym f) ∙ sym (drop-drop (b - a) a xs) ∙ ap (drop (b - a)) e ∙ drop-drop (b - a) a ys ∙ ap (λ t. drop t ys) f
-
--- the number at the front, byte by byte
-le_more : (bs : List ℕ) (n : ℕ) → le_number (take (n + 1) bs) ≡ le_number (take n bs) + get_or bs n 0 * 256 ^ n
-unfolding le_number
-le_more [] zero = refl
-le_more [] (suc n) = let e : suc n + 1 ≡ suc (n + 1) = omega arith in rw e (omega arith)
-le_more (b ∷ bs) zero = omega arith
-le_more (b ∷ bs) (suc n) =
-    let e : suc n + 1 ≡ suc (n + 1) = omega arith in
-    let d : suc n ≡ n + 1 = omega arith in
-    let p : get_or bs n 0 * 256 ^ suc n ≡ 256 * (get_or bs n 0 * 256 ^ n) =
-    ap (λ t. get_or bs n 0 * 256 ^ t) d ∙ ap (λ t. get_or bs n 0 * t) (pow-add 256 n 1) ∙ sym (mul_assoc (get_or bs n 0) (256 ^ n) 256) ∙ mul_comm (get_or bs n 0 * 256 ^ n) 256 in
-    let r : b + 256 * le_number (take (n + 1) bs) ≡ b + 256 * le_number (take n bs) + get_or bs n 0 * 256 ^ suc n = omega (arith, le_more bs n, p) in
-    rw e r
-
--- and as a sum
-le_terms : (bs : List ℕ) (k : ℕ) → sum_through (λ i. byte_worth i (get_or bs i 0)) k ≡ le_number (take (k + 1) bs)
-unfolding le_number
-le_terms [] zero = refl
-le_terms (b ∷ bs) zero = omega arith
-le_terms bs (suc k) =
-    let e : suc k + 1 ≡ (k + 1) + 1 = omega arith in
-    let f : suc k ≡ k + 1 = omega arith in
-    rw (le_terms bs k, e, le_more bs (k + 1), f) refl
-
-le_zeros : (n : ℕ) → le_number (replicate n 0) ≡ 0
-unfolding le_number
-le_zeros zero = refl
-le_zeros (suc n) = omega (arith, le_zeros n)
-
--- bytes of 0 behind count nothing
-le_padded : (bs : List ℕ) (n : ℕ) → le_number (bs ++ replicate n 0) ≡ le_number bs
-unfolding le_number
-le_padded [] n = le_zeros n
-le_padded (b ∷ bs) n = ap (λ t. b + 256 * t) (le_padded bs n)
-
-pub le_sixteen : (bs whole : List ℕ) → length bs ≤ 16 → whole ≡ bs ++ replicate (16 - length bs) 0 → from_le_bytes w128 whole ≡ le_number bs
-le_sixteen bs whole few is =
-    let long : length whole ≤ 16 = omega (arith, ap length is, length-append bs (replicate (16 - length bs) 0), length-replicate {A = ℕ} (16 - length bs) 0) in
-    le_terms whole 15 ∙ ap le_number (take_all 16 whole long ∙ is) ∙ le_padded bs (16 - length bs)

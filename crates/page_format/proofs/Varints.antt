@@ -1,6 +1,6 @@
 -- Varints: steps, lengths, and reading back.
-use Rattle.std.proofs.Common.{◌≡◌, ℕ, zero, suc, ◌+◌, ◌*◌, ◌/◌, ◌%◌, ◌^◌, ◌<◌, ◌≤◌, true, false, ltb, leb, List, [], ◌∷◌, ◌++◌, length, get_or, take, max, min, Ok, Err, sym, refl, ap, ◌∙◌, subst, inl, inr, mul_left_comm, arith, length-append, pow_mono}
-use Rattle.std.proofs.lemmas.List.{take_at, length-take, get_or-take}
+use Rattle.std.proofs.Common.{◌≡◌, ℕ, zero, suc, ◌+◌, ◌*◌, ◌/◌, ◌%◌, ◌^◌, ◌<◌, ◌≤◌, true, false, ltb, leb, List, [], ◌∷◌, ◌++◌, length, get_or, take, max, Ok, Err, sym, refl, ap, ◌∙◌, subst, inl, inr, mul_left_comm, arith, length-append, pow_mono}
+use Rattle.std.proofs.lemmas.List.{take_at}
 use Rattle.std.proofs.lemmas.Nat.{pow-add, mul-le, shl_whole}
 use Rattle.std.proofs.lemmas.Bool.{cases_Bool, cases_lt, ltb-false, lt-ltb, le-ltb, le-leb, lt-leb}
 use Rattle.page_format.specs.declared.field.BadField.TheVariants.{Cut, TooLong, TooLarge}
@@ -141,28 +141,18 @@ sevens_more (x ∷ bs) (suc i) h =
     let f : 7 * suc i ≡ 7 + 7 * i = omega arith in
     rw (e, f, pow-add 2 7 (7 * i)) (omega (arith, sevens_more bs i (omega arith), mul_left_comm (get_or bs i 0 % 128) 128 (2 ^ (7 * i))))
 
--- the byte at place i of the five bytes at the front: seven bits more, above those that are in
-pub record Seven (bs : List ℕ) (byte i v : ℕ) : Type 0 where
-  pub within : i < length bs
-  pub few : i < 5
-  pub byte_is : get_or bs i 0 ≡ byte
+-- the byte at place i: seven bits more, above those that are in
+pub record Seven (bs : List ℕ) (i v : ℕ) : Type 0 where
   pub value : v ≡ sevens (take (i + 1) bs)
   pub small : v < 2 ^ (7 * (i + 1))
 
-pub seven_more : (bs front : List ℕ) (v i low : ℕ) → front ≡ take 5 bs → i < length front → low ≡ get_or front i 0 % 128 → v ≡ sevens (take i bs) → v < 2 ^ (7 * i)
-    → Seven bs (get_or front i 0) i (v + low * 2 ^ (7 * i) % 2 ^ 64)
-seven_more bs front v i low cut lt low_is is small =
-    let l : length front ≡ min 5 (length bs) = ap length cut ∙ length-take 5 bs in
-    let few : i < 5 = omega arith in
-    let g : get_or bs i 0 ≡ get_or front i 0 = sym (ap (λ t. get_or t i 0) cut ∙ get_or-take 5 bs i 0 few) in
-    let e : low ≡ get_or bs i 0 % 128 = low_is ∙ ap (λ t. t % 128) (sym g) in
+pub seven_more : (bs : List ℕ) (v i low : ℕ) → i < 5 → i < length bs → low ≡ get_or bs i 0 % 128 → v ≡ sevens (take i bs) → v < 2 ^ (7 * i)
+    → Seven bs i (v + low * 2 ^ (7 * i) % 2 ^ 64)
+seven_more bs v i low few within low_is is small =
     let q : 7 * (i + 1) ≡ 7 * i + 7 = omega arith in
     let m : low * 2 ^ (7 * i) % 2 ^ 64 ≡ low * 2 ^ (7 * i) = shl_whole low 7 (7 * i) 64 (omega arith) (omega arith) in
     record {
-      within = omega arith;
-      few = few;
-      byte_is = g;
-      value = rw (m, e) (omega (arith, sevens_more bs i (omega arith)));
+      value = rw (m, low_is) (omega (arith, sevens_more bs i within));
       small = rw (m, q, pow-add 2 (7 * i) 7) (omega (arith, mul-le low (2 ^ (7 * i)) 127 (2 ^ (7 * i)) (omega arith) (omega arith)));
     }
 

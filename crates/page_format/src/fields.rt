@@ -7,22 +7,16 @@ use crate::field::{BadField, Field};
 // The bytes of the longest varint below 2^32.
 const MAX_VARINT_BYTES: usize = 5;
 
-// Bytes with 0 behind them, sixteen in all.
-fn padded(bytes: &[u8]) -> [u8; 16]
-    requires { length bytes.now ≤ 16 }
-    ensures { result ≡ bytes.now ++ replicate (16 - length bytes.now) 0 }
-{
-    let mut all = [0; 16];
-    all[..bytes.len()].copy_from_slice(bytes);
-    all
-}
-
 // The number that bytes are, the lowest first.
 fn le_value(bytes: &[u8]) -> u128
     requires { length bytes.now ≤ 16 }
     ensures { result ≡ le_number bytes.now }
 {
-    u128::from_le_bytes(padded(bytes))
+    let mut value: u128 = 0;
+    for byte in bytes.iter().rev() {
+        value = (value << 8) | u128::from(*byte);
+    }
+    value
 }
 
 /// The number that the first `n` bytes are, the lowest first.
@@ -42,9 +36,11 @@ pub fn read_le(bytes: &[u8], n: usize) -> Result<u64, BadField>
 pub fn read_varint(bytes: &[u8]) -> Result<Field, BadField>
     ensures { result ≡ read_varint 32 bytes.now }
 {
-    let longest = &bytes[..MAX_VARINT_BYTES.min(bytes.len())];
     let mut value: u64 = 0;
-    for (i, byte) in longest.iter().enumerate() {
+    for i in 0..MAX_VARINT_BYTES {
+        let Some(byte) = bytes.get(i) else {
+            return Err(BadField::Cut);
+        };
         value += u64::from(byte % 128) << (7 * i);
         if *byte < 128 {
             return if value < 1 << 32 {
@@ -54,11 +50,7 @@ pub fn read_varint(bytes: &[u8]) -> Result<Field, BadField>
             };
         }
     }
-    Err(if bytes.len() < MAX_VARINT_BYTES {
-        BadField::Cut
-    } else {
-        BadField::TooLong
-    })
+    Err(BadField::TooLong)
 }
 
 /// The value at place `index` of a row packed at `width` bits.

@@ -1,6 +1,6 @@
 //! The lines of a report.
-
 use key_pages::Run;
+use page_format::Fault;
 use page_text::{Hex, Spaced};
 use std::fmt;
 
@@ -31,35 +31,45 @@ impl fmt::Display for RunLine<'_> {
     }
 }
 
-// What is told of a page, which prints as its lines: those of the runs, the keys, the keys that are used, and whether our writer makes
-// the same page.
+// What is told of a page behind its runs, which prints as its lines: the keys, the keys that are used, and whether our writer makes the
+// same page.
 #[derive(Drop)]
 pub(crate) struct Contents {
-    pub(crate) runs: String,
     pub(crate) keys: Vec<u32>,
     pub(crate) used: Vec<u32>,
     pub(crate) same: bool,
 }
 
 impl fmt::Display for Contents {
-    ghost use Rattle.std.specs.Prelude.{Some, string_bytes};
+    ghost use Rattle.std.specs.Prelude.{Some};
     ghost use Rattle.page_report.specs.Lines.{contents_text};
 
-    ghost output = { λ c. Some (contents_text (string_bytes c.runs) c.keys.items c.used.items c.same) };
+    ghost output = { λ c. Some (contents_text c.keys.items c.used.items c.same) };
 
     fn fmt<W: fmt::Write>(&self, f: &mut fmt::Formatter<W>) -> fmt::Result {
-        let Contents {
-            runs,
-            keys,
-            used,
-            same,
-        } = self;
+        let Contents { keys, used, same } = self;
         let answer = if *same { "yes" } else { "no" };
         write!(
             f,
-            "{runs}keys{}\nused{}\nsame {answer}\n",
+            "keys{}\nused{}\nsame {answer}\n",
             Spaced(keys),
             Spaced(used)
         )
+    }
+}
+
+// A fault that prints as its line.
+#[derive(Clone, Copy)]
+pub(crate) struct FaultLine(pub(crate) Fault);
+
+impl fmt::Display for FaultLine {
+    ghost use Rattle.std.specs.Prelude.{Some};
+    ghost use Rattle.page_report.specs.Lines.{fault_line};
+
+    ghost output = { λ l. Some (fault_line l.0) };
+
+    fn fmt<W: fmt::Write>(&self, f: &mut fmt::Formatter<W>) -> fmt::Result {
+        let fault = self.0;
+        writeln!(f, "{fault}")
     }
 }

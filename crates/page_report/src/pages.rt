@@ -8,7 +8,7 @@ ghost use Rattle.page_report.specs.Lines.{run_line};
 ghost use Rattle.page_report.specs.Reports.{Once, Makes, OwnPage, Told, Answered};
 
 use crate::failure::Failure;
-use crate::lines::{Contents, RunLine};
+use crate::lines::{Contents, FaultLine, RunLine};
 use key_pages::{KeyPage, Runs, key_width, max_buffer_size, write_key_page};
 use page_format::MAX_ENTRIES;
 use page_text::Request;
@@ -68,17 +68,12 @@ fn contents(
 ) -> Result<String, AllocError>
     ensures { IfOk result (λ s. (count : ℕ) → Opened bytes.now count entries page.now → Told bytes.now count entries (string_bytes s)) }
 {
-    let runs = run_lines(alloc, page.runs())?;
     let keys: Vec<u32> = page.keys().collect(alloc)?;
     let used = used_list(alloc, page)?;
     let same = makes(alloc, key_width(entries), &keys, bytes)?;
-    let contents = Contents {
-        runs,
-        keys,
-        used,
-        same,
-    };
-    contents.to_string(alloc)
+    let mut text = run_lines(alloc, page.runs())?;
+    write!(text, "{}", Contents { keys, used, same })?;
+    Ok(text)
 }
 
 // What is in a page, or why it is rejected.
@@ -93,6 +88,6 @@ pub(crate) fn page_report(alloc: Global, request: &Request) -> Result<String, Al
     let entries = *entries as usize;
     match KeyPage::open(bytes, *count as usize, entries) {
         Ok(page) => contents(alloc, &page, bytes, entries),
-        Err(fault) => format!(in alloc; "{fault}\n"),
+        Err(fault) => FaultLine(fault).to_string(alloc),
     }
 }

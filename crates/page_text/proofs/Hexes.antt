@@ -1,14 +1,16 @@
 -- Hex digits, two for each byte. Assumes nothing.
-use Rattle.std.proofs.Common.{◌≡◌, ℕ, zero, suc, ◌+◌, ◌*◌, ◌/◌, ◌%◌, ◌<◌, ◌≤◌, List, [], ◌∷◌, ◌++◌, length, get_or, take, drop, sym, refl, ap, ◌∙◌, subst, arith}
+use Rattle.std.proofs.Common.{◌≡◌, ℕ, zero, suc, ◌+◌, ◌*◌, ◌/◌, ◌%◌, ◌<◌, ◌≤◌, List, [], ◌∷◌, ◌++◌, length, get_or, take, drop, set, length-set, sym, refl, ap, ◌∙◌, subst, arith}
 use Rattle.std.specs.Simd.{first_chunks}
 use Rattle.std.proofs.ByRecursion.{All-push}
-use Rattle.std.proofs.lemmas.List.{append_assoc, take_more, get_or-take, get_or-drop}
+use Rattle.std.proofs.lemmas.List.{append_assoc, take_more, take_more_set, get_or-take, get_or-drop}
+use Rattle.std.specs.Str.{IsAscii, IsUtf8}
+use Rattle.std.proofs.lemmas.Str.{IsUtf8-from_ascii}
+use Rattle.std.proofs.lemmas.Str.Ascii.{IsAscii-nil, IsAscii-cons}
 use Rattle.std.proofs.lemmas.Bool.Decides.{nat_tests}
-use Rattle.std.proofs.lemmas.Grind.{common_steps}
 use Rattle.page_text.specs.Pages.{hex_digit, hex, Bytes}
 use Rattle.page_text.proofs.Splits.{Lacks}
 
-hex_append : (xs ys : List ℕ) → hex (xs ++ ys) ≡ hex xs ++ hex ys
+pub hex_append : (xs ys : List ℕ) → hex (xs ++ ys) ≡ hex xs ++ hex ys
 unfolding hex
 hex_append [] ys = refl
 hex_append (x ∷ xs) ys = ap (λ l. hex_digit (x / 16) ∷ (hex_digit (x % 16) ∷ l)) (hex_append xs ys)
@@ -17,7 +19,28 @@ hex_append (x ∷ xs) ys = ap (λ l. hex_digit (x / 16) ∷ (hex_digit (x % 16) 
 pub hex_more : (xs : List ℕ) (i : ℕ) → i < length xs → hex (take (i + 1) xs) ≡ hex (take i xs) ++ hex (get_or xs i 0 ∷ [])
 hex_more xs i l = ap hex (take_more xs i 0 l) ∙ hex_append (take i xs) (get_or xs i 0 ∷ [])
 
-pub ruleset hex_steps = (common_steps, hex_more)
+-- the digits of the byte in place i, written behind those of the bytes before it
+pub hex_written : (digits bs : List ℕ) (i high low : ℕ) → i < length bs → 2 * i + 1 < length digits → high ≡ hex_digit (get_or bs i 0 / 16) → low ≡ hex_digit (get_or bs i 0 % 16) → take (2 * i) digits ≡ hex (take i bs) → take (2 * (i + 1)) (set (set digits (2 * i) high) (2 * i + 1) low) ≡ hex (take (i + 1) bs)
+unfolding hex
+hex_written digits bs i high low l m h k e =
+    let next : 2 * (i + 1) ≡ 2 * i + 1 + 1 = omega arith in
+    let first : 2 * i < length digits = omega arith in
+    let second : 2 * i + 1 < length (set digits (2 * i) high) = omega (arith, length-set digits (2 * i) high) in
+    rw (next, take_more_set (set digits (2 * i) high) (2 * i + 1) low second, take_more_set digits (2 * i) high first, e, h, k, hex_more bs i l)
+    (append_assoc (hex (take i bs)) (hex_digit (get_or bs i 0 / 16) ∷ []) (hex_digit (get_or bs i 0 % 16) ∷ []))
+
+digit_ascii : (d : ℕ) → d < 16 → hex_digit d < 128
+digit_ascii d l = grind (arith, nat_tests)
+
+IsAscii-hex : (bs : List ℕ) → ((i : ℕ) → get_or bs i 0 < 256) → IsAscii (hex bs)
+unfolding hex
+IsAscii-hex [] small = IsAscii-nil
+IsAscii-hex (b ∷ bs) small =
+    IsAscii-cons (hex_digit (b / 16)) (hex_digit (b % 16) ∷ hex bs) (digit_ascii (b / 16) (omega (arith, small 0)))
+    (IsAscii-cons (hex_digit (b % 16)) (hex bs) (digit_ascii (b % 16) (omega arith)) (IsAscii-hex bs (λ i. small (suc i))))
+
+pub IsUtf8-hex : (digits bs : List ℕ) → digits ≡ hex bs → ((i : ℕ) → get_or bs i 0 < 256) → IsUtf8 digits
+IsUtf8-hex digits bs e small = subst IsUtf8 (sym e) (IsUtf8-from_ascii (hex bs) (IsAscii-hex bs small))
 
 pub length-hex : (bs : List ℕ) → length (hex bs) ≡ 2 * length bs
 unfolding hex

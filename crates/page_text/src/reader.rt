@@ -52,11 +52,11 @@ pub fn read_request(alloc: Global, text: &[u8]) -> Result<Request, RequestError>
         return Err(RequestError::from(Complaint::TooLong));
     }
     let (first, rest) = split(text, b'\n');
-    let (second, rest) = split(rest, b'\n');
     let page = page_line(alloc, first)?;
     if Encoding::try_from(page.encoding) != Ok(Encoding::RleDictionary) {
         return Err(RequestError::from(Complaint::OtherEncoding));
     }
+    let (second, rest) = split(rest, b'\n');
     let entries = entries_line(second)?;
     if !rest.is_empty() {
         return Err(RequestError::from(Complaint::LineTooMany));

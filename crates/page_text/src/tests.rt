@@ -48,3 +48,20 @@ fn prints(rt: HostRuntime) -> Result<(), Fail> {
     );
     Ok(())
 }
+
+// More than one piece of each.
+#[test]
+fn writes_pieces(rt: HostRuntime) -> Result<(), Fail> {
+    let mut text = String::new(rt.alloc());
+    push_hex(&mut text, &[0xA5; 33])?;
+    push_numbers(&mut text, &[u32::MAX; 65])?;
+    let mut expected = String::new(rt.alloc());
+    for _ in 0..33 {
+        expected.push_str("A5")?;
+    }
+    for _ in 0..65 {
+        expected.push_str(" 4294967295")?;
+    }
+    assert_eq!(rt; text.as_str(), expected.as_str());
+    Ok(())
+}

@@ -1,11 +1,20 @@
 //! The writers: values that print as a request's parts, and calls that append them.
-ghost use Rattle.std.specs.Prelude.{◌≡◌, [], ◌∷◌, ◌++◌, string_bytes, decimal, OnOk};
-ghost use Rattle.std.specs.Fmt.{AppendsText, WritesOnOk};
-ghost use Rattle.page_text.specs.Pages.{hex};
+ghost use Rattle.std.specs.Prelude.{◌≡◌, ◌<◌, ◌≤◌, ◌++◌, length, string_bytes, decimal, OnOk};
+ghost use Rattle.std.specs.Fmt.{AppendsText};
+ghost use Rattle.page_text.specs.Pages.{hex_digit, hex};
 ghost use Rattle.page_text.specs.Written.{spaced, Keeps};
 
 use std::alloc::AllocError;
 use std::fmt;
+use std::str::from_utf8;
+
+// How many bytes are written at a time, and the room for their digits.
+const BLOCK: usize = 32;
+
+const ROOM: usize = 2 * BLOCK;
+
+// How many numbers are printed at a time, so that their text is short beside the whole.
+const PIECE: usize = 64;
 
 /// Bytes that print as two upper-case hex digits each.
 #[derive(Clone, Copy, PartialEq, Eq, Debug)]
@@ -15,11 +24,27 @@ pub struct Hex<'a>(pub &'a [u8]);
 #[derive(Clone, Copy, PartialEq, Eq, Debug)]
 pub struct Spaced<'a>(pub &'a [u32]);
 
-// The two digits of a byte. In a function of its own, since a byte that is passed is known to be below 256, and one of a slice in a struct is not.
-fn write_byte<W: fmt::Write>(f: &mut fmt::Formatter<W>, byte: u8) -> fmt::Result
-    ensures { WritesOnOk W.write_str_gives f.old result (hex (byte ∷ [])) f.new }
+fn hex_digit(value: u8) -> u8
+    requires { value < 16 }
+    ensures { result ≡ hex_digit value }
 {
-    write!(f, "{byte:02X}")
+    match value {
+        0..=9 => b'0' + value,
+        _ => b'A' + value - 10,
+    }
+}
+
+// The digits of a block, which are written into `room`.
+#[tactic(auto, using(crate::proofs::Hexes::hex_written), unfolding(crate::specs::Pages::hex))]
+fn block_text<'a>(block: &[u8], room: &'a mut [u8; ROOM]) -> &'a str
+    requires { length block.now ≤ BLOCK }
+    ensures { result.now ≡ hex block.now }
+{
+    for (i, byte) in block.iter().enumerate() {
+        room[2 * i] = hex_digit(*byte / 16);
+        room[2 * i + 1] = hex_digit(*byte % 16);
+    }
+    from_utf8(&room[..2 * block.len()]).unwrap()
 }
 
 impl fmt::Display for Hex<'_> {
@@ -27,10 +52,10 @@ impl fmt::Display for Hex<'_> {
 
     ghost output = { λ h. Some (hex h.0.now) };
 
-    #[tactic(auto, using(crate::proofs::Hexes::hex_steps), unfolding(crate::specs::Pages::hex))]
     fn fmt<W: fmt::Write>(&self, f: &mut fmt::Formatter<W>) -> fmt::Result {
-        for byte in self.0 {
-            write_byte(f, *byte)?;
+        let mut room = [0; ROOM];
+        for block in self.0.chunks(BLOCK) {
+            f.write_str(block_text(block, &mut room))?;
         }
         Ok(())
     }
@@ -65,7 +90,11 @@ pub fn push_hex(out: &mut String, bytes: &[u8]) -> Result<(), AllocError>
     ensures appends { OnOk result (string_bytes out.new ≡ string_bytes out.old ++ hex bytes.now) }
     ensures keeps { Keeps (string_bytes out.old) (string_bytes out.new) }
 {
-    push(out, Hex(bytes))
+    let mut room = [0; ROOM];
+    for block in bytes.chunks(BLOCK) {
+        out.push_str(block_text(block, &mut room))?;
+    }
+    Ok(())
 }
 
 /// Appends the decimal of a number.
@@ -81,5 +110,8 @@ pub fn push_numbers(out: &mut String, numbers: &[u32]) -> Result<(), AllocError>
     ensures appends { OnOk result (string_bytes out.new ≡ string_bytes out.old ++ spaced numbers.now) }
     ensures keeps { Keeps (string_bytes out.old) (string_bytes out.new) }
 {
-    push(out, Spaced(numbers))
+    for piece in numbers.chunks(PIECE) {
+        push(out, Spaced(piece))?;
+    }
+    Ok(())
 }

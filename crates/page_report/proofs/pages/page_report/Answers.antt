@@ -7,4 +7,4 @@ use Rattle.page_report.proofs.pages.page_report.Goals as goal
 pub returns-in-Err : goal.returns-in-Err
 returns-in-Err c =
     let q = c.args.request.now in
-    IfOk-weaker c.format.result _ _ (λ s e. rejects c.in-Err.fault (subst (λ bytes. Refused bytes q.count q.entries c.in-Err.fault) c.deref.ensures.value c.in-Err.ensures.rejected) e) c.format.ensures.ok
+    IfOk-weaker c.to_string.result _ _ (λ s e. rejects c.in-Err.fault (subst (λ bytes. Refused bytes q.count q.entries c.in-Err.fault) c.deref.ensures.value c.in-Err.ensures.rejected) e) c.to_string.ensures.ok

@@ -1,4 +1,4 @@
-use Rattle.std.proofs.Common.{Err, refl, ap, ◌∙◌}
+use Rattle.std.proofs.Common.{Err, refl, ap, ◌∙◌, rules}
 use Rattle.std.proofs.lemmas.Result.{err_from_is_err_and}
 use Rattle.interner.specs.Interning.{found}
 use Rattle.interner.proofs.Steps.{step_known, step_new}
@@ -19,7 +19,7 @@ returns-in_ok-key-in-Free-clause-step g c =
 pub returns-in_ok-key-in-Free-clause-sound : goal.returns-in_ok-key-in-Free-clause-sound
 returns-in_ok-key-in-Free-clause-sound g c =
     let told = c.in_ok-key-in-Free.ensures in
-    λ s. sound_free (g.S.Storage.store c.args.self.now.storage) c.args.place c.in_ok-key-in-Free.key (g.S.Storage.entries c.push.new.self) s c.in-Free.ensures told.answer told.grown
+    λ s. sound_free (g.S.Storage.store c.args.self.now.storage) c.args.place c.in_ok-key-in-Free.key (g.S.Storage.entries c.push.new.self) s c.in-Free.ensures told.answer told.grown (search rules)
 
 pub returns-in-Full-clause-step : goal.returns-in-Full-clause-step
 returns-in-Full-clause-step g c = λ s. absurd (never_full c.args.value.now (g.met.S.Storage.kept c.args.self.now.storage).few s c.in-Full.ensures)
