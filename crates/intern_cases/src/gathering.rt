@@ -140,7 +140,8 @@ impl<A: ArrayAccessor> Gathering<'_, A> {
             .try_collect(alloc)
     }
 
-    // The page of their keys, and the page of the entries.
+    // The page of their keys, and the page of the entries. Not inlined: the frame of a caller would hold an interner for each hash.
+    #[inline(never)]
     fn interned<H: KeyHash + Drop>(&self, alloc: Global, hash: H) -> Result<String, Failure> {
         let memory = vec![in alloc; 0u8; 65536]?;
         let mut interner = Interner::new(PlainStorage::new(Column::ByteStrings, memory), hash);
