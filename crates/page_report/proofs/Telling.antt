@@ -1,5 +1,5 @@
 -- How what the readers and the writer promise makes a report.
-use Rattle.std.proofs.Common.{◌≡◌, ℕ, ◌-◌, ◌^◌, ◌<◌, ◌≤◌, Bool, List, [], ◌∷◌, ◌++◌, length, take, Ok, Decides, Result, sym, ap, ◌∙◌, subst, ap₂, arith, length-take}
+use Rattle.std.proofs.Common.{◌≡◌, ℕ, ◌-◌, ◌^◌, ◌<◌, ◌≤◌, Bool, List, [], ◌∷◌, length, take, Ok, Decides, Result, sym, ap, ◌∙◌, subst, ap₂, arith, length-take}
 use mathlib.Core.Path.{subst₃}
 use Rattle.std.specs.List.{flat_map, ContainsAt as Has, AllByRecursion}
 use Rattle.std.proofs.lemmas.List.{length-take-le, get_or-take}
@@ -51,7 +51,7 @@ pub tells_page : (bytes : List ℕ) (count entries : ℕ) (p : KeyPage) (keys us
     → ((w : ℕ) (runs : List ReadRun) → Accepted p.page.now p.count p.entries w runs → Once (keys_of w p.count runs) used)
     → ((w : ℕ) (runs : List ReadRun) → Means p.page.now p.count w runs → rs ≡ runs)
     → BitsOf (entries - 1) own → Decides same (Makes own keys bytes)
-    → text ≡ flat_map run_line rs ++ contents_text keys used same
+    → text ≡ contents_text (flat_map run_line rs) keys used same
     → Told bytes count entries text
 tells_page bytes count entries p keys used rs own same text o keys-are used-are runs-are own_is same-is says =
     let a : Accepted bytes count entries o.accepted.0 o.accepted.1 = o.accepted.2 in
@@ -72,5 +72,5 @@ tells_page bytes count entries p keys used rs own same text o keys-are used-are 
       own = own_is;
       same = same;
       decides = decides_same own (keys_of o.accepted.0 count o.accepted.1) bytes same l.0 l.1 m;
-      says = says ∙ ap₂ (λ x y. flat_map run_line x ++ contents_text y used same) r k;
+      says = says ∙ ap₂ (λ x y. contents_text (flat_map run_line x) y used same) r k;
     }

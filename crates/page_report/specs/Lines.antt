@@ -33,5 +33,9 @@ same_line true = codes "same yes\n"
 same_line false = codes "same no\n"
 
 -- the lines behind those of the runs: the keys, the used keys, and whether the page is the same
-abbrev pub contents_text : List ℕ → List ℕ → Bool → List ℕ
-contents_text keys used same = list_line (codes "keys") keys ++ (list_line (codes "used") used ++ same_line same)
+abbrev pub lines_behind_runs : List ℕ → List ℕ → Bool → List ℕ
+lines_behind_runs keys used same = list_line (codes "keys") keys ++ (list_line (codes "used") used ++ same_line same)
+
+-- the lines of runs, and then those of keys and used keys, and whether the page is the same
+abbrev pub contents_text : List ℕ → List ℕ → List ℕ → Bool → List ℕ
+contents_text runs keys used same = runs ++ lines_behind_runs keys used same

@@ -1,5 +1,5 @@
 -- What a report says of a text.
-use Rattle.std.specs.Prelude.{◌≡◌, ℕ, ◌-◌, ◌^◌, ◌<◌, Bool, List, ◌++◌, length, Ok, Err, Result, vec_items, codes, Decides, Vec, ◌≢◌, slice_index}
+use Rattle.std.specs.Prelude.{◌≡◌, ℕ, ◌-◌, ◌^◌, ◌<◌, Bool, List, length, Ok, Err, Result, vec_items, Decides, Vec, ◌≢◌, slice_index}
 use Rattle.std.specs.declared.alloc.Global.{Global}
 use Rattle.std.specs.List.{flat_map, ContainsAt as Has, AllByRecursion}
 use Rattle.page_format.specs.Bits.{BitsOf}
@@ -12,7 +12,7 @@ use Rattle.page_report.specs.declared.failure.Failure.TheVariants.{Rejected, Mem
 use Rattle.key_pages.specs.Meaning.{ReadRun, keys_of}
 use Rattle.key_pages.specs.Opening.{Accepted, Refused}
 use Rattle.key_pages.specs.Runs.{page}
-use Rattle.page_report.specs.Lines.{complaint_line, fault_line, run_line, list_line, same_line}
+use Rattle.page_report.specs.Lines.{complaint_line, fault_line, run_line, contents_text}
 
 -- the list has each of the keys once, and nothing else
 pub record Once (keys used : List ℕ) : Type 0 where
@@ -44,7 +44,7 @@ pub record Told (bytes : List ℕ) (count entries : ℕ) (text : List ℕ) : Typ
   pub own : BitsOf (entries - 1) own_width
   pub same : Bool
   pub decides : Decides same (page own_width (keys_of width count runs) ≡ bytes)
-  pub says : text ≡ flat_map run_line runs ++ (list_line (codes "keys") (keys_of width count runs) ++ (list_line (codes "used") used ++ same_line same))
+  pub says : text ≡ contents_text (flat_map run_line runs) (keys_of width count runs) used same
 
 -- what is in a page, or why it is rejected
 pub data Answered (bytes : List ℕ) (count entries : ℕ) (text : List ℕ) : Type 0 where

@@ -42,9 +42,9 @@ pub(crate) struct Contents {
 
 impl fmt::Display for Contents {
     ghost use Rattle.std.specs.Prelude.{Some};
-    ghost use Rattle.page_report.specs.Lines.{contents_text};
+    ghost use Rattle.page_report.specs.Lines.{lines_behind_runs};
 
-    ghost output = { λ c. Some (contents_text c.keys.items c.used.items c.same) };
+    ghost output = { λ c. Some (lines_behind_runs c.keys.items c.used.items c.same) };
 
     fn fmt<W: fmt::Write>(&self, f: &mut fmt::Formatter<W>) -> fmt::Result {
         let Contents { keys, used, same } = self;
